@@ -1,0 +1,3 @@
+mod class;
+
+pub use class::ByteClass;
