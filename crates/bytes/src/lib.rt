@@ -1,3 +1,4 @@
 mod class;
+mod set;
 
 pub use class::ByteClass;

@@ -1,7 +1,9 @@
 use mathlib.Core.Path.{_≡_}
+use mathlib.Core.Bool.{Bool, _||_}
 use mathlib.Core.List.{List}
 use mathlib.Core.Logic.{_⊎_}
 use Prim.Native.Nat.{ℕ, _+_, _<_, _≤_}
+use lib.Dec.{eqb}
 use lib.ListN.{length}
 use Rattle.std.specs.declared.result.Result.{Result}
 use Rattle.std.specs.declared.result.Result.the-variants.{Ok, Err}
@@ -14,6 +16,9 @@ use Rattle.kinds.specs.Refusals.{numberOf}
 -- ( ) | * + ?
 abbrev pub Operator : ℕ → Type 0
 Operator b = (b ≡ 40) ⊎ ((b ≡ 41) ⊎ ((b ≡ 124) ⊎ ((b ≡ 42) ⊎ ((b ≡ 43) ⊎ (b ≡ 63)))))
+
+abbrev pub isOperator : ℕ → Bool
+isOperator b = eqb b 40 || (eqb b 41 || (eqb b 124 || (eqb b 42 || (eqb b 43 || eqb b 63))))
 
 abbrev pub refusedAt : {X : Type 0} → Refusal → ℕ → Result X Refused
 refusedAt why place = Err (record { refusal = why; place = place })
