@@ -1,1 +1,4 @@
 pub mod Classes
+pub mod Runs
+pub mod Sets
+pub mod Law

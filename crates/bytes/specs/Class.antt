@@ -39,6 +39,10 @@ others c = classOf (λ b. not (hasByte c b))
 abbrev pub emptyClass : ByteClass
 emptyClass = record { words = 0 ∷ 0 ∷ 0 ∷ 0 ∷ [] }
 
+-- The class of one byte.
+abbrev pub onlyClass : ℕ → ByteClass
+onlyClass b = ranged emptyClass b b
+
 -- What holds of every value of the type: four words of 64 bits.
 pub record Words (c : ByteClass) : Type 0 where
   pub four : length (c .words) ≡ 4

@@ -14,7 +14,7 @@ use Rattle.bytes.specs.declared.set.SetState.{SetState}
 use Rattle.bytes.specs.declared.set.SetState.the-variants.{Start, Between, Escape, First, Dash, LastEscape}
 use Rattle.bytes.specs.declared.set.Turn.{Turn}
 use Rattle.bytes.specs.declared.set.Turn.the-variants.{On, Closed, NoItems, Backward}
-use Rattle.bytes.specs.Class.{classOf, ranged, others, emptyClass}
+use Rattle.bytes.specs.Class.{ranged, others, emptyClass, onlyClass}
 
 -- What the program computes: the set reader as a machine, one byte a turn.
 
@@ -39,13 +39,13 @@ turnOf (Dash first at) c place b =
 turnOf (LastEscape first at) c place b = endRange c first at b
 
 -- The class of a whole set.
-abbrev pub finished : Bool → ByteClass → ByteClass
-finished negated c = cond negated (others c) c
+abbrev pub wholeClass : Bool → ByteClass → ByteClass
+wholeClass negated c = cond negated (others c) c
 
 module _ (negated : Bool) (bracket : ℕ) where
   abbrev pub afterTurn : (SetState → ByteClass → Result (Atom ByteClass) Refused) → ℕ → Turn → Result (Atom ByteClass) Refused
   afterTurn go place (On state c) = go state c
-  afterTurn go place (Closed c) = Ok (record { class = finished negated c; length = place + 1 - bracket })
+  afterTurn go place (Closed c) = Ok (record { class = wholeClass negated c; length = place + 1 - bracket })
   afterTurn go place NoItems = refusedAt EmptySet bracket
   afterTurn go place (Backward at) = refusedAt BackwardRange at
 
@@ -59,10 +59,6 @@ abbrev pub setFrom : List ℕ → ℕ → Result (Atom ByteClass) Refused
 setFrom [] i = refusedAt UnfinishedSet i
 setFrom (b ∷ rest) i =
     cond (eqb b 94) (runSet true i rest (i + 2) Start emptyClass) (runSet false i (b ∷ rest) (i + 1) Start emptyClass)
-
--- The class of one byte.
-abbrev pub onlyClass : ℕ → ByteClass
-onlyClass b = ranged emptyClass b b
 
 -- Behind the `\` at a place.
 abbrev pub escapeFrom : List ℕ → ℕ → Result (Atom ByteClass) Refused

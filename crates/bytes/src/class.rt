@@ -2,7 +2,7 @@ ghost use mathlib.Core.Path.{_≡_};
 ghost use mathlib.Core.Bool.{_||_};
 ghost use Prim.Native.Nat.{_+_, _≤_};
 ghost use Rattle.sets.specs.Sets.{member, gathered};
-ghost use Rattle.bytes.specs.Class.{hasByte, between, ranged, others, emptyClass};
+ghost use Rattle.bytes.specs.Class.{hasByte, between, ranged, others, emptyClass, onlyClass};
 use sets::contains;
 use sets::insert;
 
@@ -19,6 +19,13 @@ impl ByteClass {
     {
         let words = [0u64; 4];
         ByteClass { words }
+    }
+
+    // One byte alone.
+    pub fn only(byte: u8) -> ByteClass
+        ensures { λ r. ⌜ r ≡ onlyClass byte ⌝ }
+    {
+        ByteClass::empty().with_range(byte, byte)
     }
 
     pub fn has(self, byte: u8) -> bool

@@ -1,9 +1,8 @@
 ghost use mathlib.Core.Path.{_≡_};
-ghost use mathlib.Core.Bool.{Bool, true};
-ghost use Prim.Native.Nat.{ℕ, _+_, _≤_, _<_};
+ghost use Prim.Native.Nat.{_+_, _≤_, _<_};
 ghost use lib.ListN.{length, drop};
 ghost use Rattle.bytes.specs.Class.{emptyClass};
-ghost use Rattle.bytes.specs.Reading.{turnOf, runSet};
+ghost use Rattle.bytes.specs.Reading.{turnOf, wholeClass, runSet, setFrom};
 ghost use Rattle.bytes.specs.declared.set.SetState.the-variants.{Start as StartState};
 use crate::class::ByteClass;
 use kinds::Atom;
@@ -12,7 +11,7 @@ use kinds::Refused;
 
 // How far the reading of a set has come. A place is that of an item's first byte, or of its `\`.
 #[derive(Clone, Copy)]
-pub enum SetState {
+pub(crate) enum SetState {
     // no item so far
     Start,
     // behind a whole range
@@ -29,7 +28,7 @@ pub enum SetState {
 
 // What one byte does to the reading of a set.
 #[derive(Clone, Copy)]
-pub enum Turn {
+pub(crate) enum Turn {
     On(SetState, ByteClass),
     Closed(ByteClass),
     NoItems,
@@ -37,7 +36,7 @@ pub enum Turn {
 }
 
 // One byte of a set, at a place, in a state with the items so far.
-pub fn advance(state: SetState, class: ByteClass, place: usize, byte: u8) -> Turn
+fn advance(state: SetState, class: ByteClass, place: usize, byte: u8) -> Turn
     ensures { λ r. ⌜ r ≡ turnOf state class place byte ⌝ }
 {
     match (state, byte) {
@@ -65,5 +64,66 @@ pub fn advance(state: SetState, class: ByteClass, place: usize, byte: u8) -> Tur
         (SetState::Dash(first, _) | SetState::LastEscape(first, _), b) => {
             Turn::On(SetState::Between, class.with_range(first, b))
         }
+    }
+}
+
+// The class of a whole set, by its items and whether `^` leads.
+fn whole_class(negated: bool, items: ByteClass) -> ByteClass
+    ensures { λ r. ⌜ r ≡ wholeClass negated items ⌝ }
+{
+    if negated { items.complement() } else { items }
+}
+
+// The items of a set, from their first place on, up to its `]`.
+fn read_items(
+    text: &[u8],
+    bracket: usize,
+    from: usize,
+    negated: bool,
+) -> Result<Atom<ByteClass>, Refused>
+    requires { ⌜ bracket < from ⌝ ∗ ⌜ from ≤ length (now text) ⌝ }
+    ensures { λ r. ⌜ r ≡ runSet negated bracket (drop from (now (text .entry))) from StartState emptyClass ⌝ }
+{
+    let mut state = SetState::Start;
+    let mut class = ByteClass::empty();
+    for place in from..text.len() {
+        match advance(state, class, place, text[place]) {
+            Turn::On(next, items) => {
+                state = next;
+                class = items;
+            }
+            Turn::Closed(items) => {
+                let class = whole_class(negated, items);
+                return Ok(Atom {
+                    class,
+                    length: place + 1 - bracket,
+                });
+            }
+            Turn::NoItems => return Err(Refused {
+                refusal: Refusal::EmptySet,
+                place: bracket,
+            }),
+            Turn::Backward(at) => return Err(Refused {
+                refusal: Refusal::BackwardRange,
+                place: at,
+            }),
+        }
+    }
+    Err(Refused {
+        refusal: Refusal::UnfinishedSet,
+        place: bracket,
+    })
+}
+
+// The set whose `[` stands at a place.
+pub(crate) fn read_set(text: &[u8], bracket: usize) -> Result<Atom<ByteClass>, Refused>
+    requires { ⌜ bracket < length (now text) ⌝ }
+    ensures { λ r. ⌜ r ≡ setFrom (drop (bracket + 1) (now (text .entry))) bracket ⌝ }
+{
+    let inside = bracket + 1;
+    if inside < text.len() && text[inside] == b'^' {
+        read_items(text, bracket, inside + 1, true)
+    } else {
+        read_items(text, bracket, inside, false)
     }
 }

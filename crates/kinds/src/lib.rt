@@ -3,15 +3,16 @@
 // place in the pattern's text where the fault was decided. `Kind` is what the reader, the steppers
 // and the scan know of symbols: nothing above this crate knows a kind's letters.
 ghost use mathlib.Core.Path.{_≡_};
-ghost use mathlib.Core.Bool.{Bool, false, cond};
+ghost use mathlib.Core.Bool.{Bool, true, false, cond};
 ghost use mathlib.Core.List.{List};
+ghost use mathlib.Core.Logic.{_↔_};
 ghost use Prim.Native.Nat.{ℕ, _+_, _<_, _≤_};
 ghost use lib.ListN.{length, getD};
 ghost use lib.Dec.{ltb};
 ghost use Rattle.std.specs.declared.result.Result.{Result as Either};
 ghost use Rattle.std.specs.declared.option.Option.the-variants.{Some, None};
 ghost use Rattle.kinds.specs.Refusals.{numberOf};
-ghost use Rattle.kinds.specs.Atoms.{Within, Operator, noAtom};
+ghost use Rattle.kinds.specs.Atoms.{Within, Operator, isOperator, noAtom};
 ghost use Rattle.kinds.specs.declared.Atom.{Atom as AtomOf};
 ghost use Rattle.kinds.specs.declared.Refused.{Refused as RefusedAt};
 
@@ -84,6 +85,14 @@ pub struct Refused {
 pub struct Atom<C> {
     pub class: C,
     pub length: usize,
+}
+
+// Whether a byte is one of the pattern language's operators, `( ) | * + ?`: none begins an atom.
+pub fn is_operator(byte: u8) -> bool
+    ensures value { λ r. ⌜ r ≡ isOperator byte ⌝ }
+    ensures cases { λ r. ⌜ ((r ≡ true) ↔ Operator byte) ⌝ }
+{
+    matches!(byte, b'(' | b')' | b'|' | b'*' | b'+' | b'?')
 }
 
 // A kind of symbol: its symbols with their numbers, its classes, and how an atom is spelled.
