@@ -75,3 +75,38 @@ wordOf-other words i h =
     (λ x l. member-not 64 (getD words i 0) x h l
     ∙ sym (member-gathered (λ j. not (inWords words (i * 64 + j))) 64 x l
     ∙ rw (div-mul-add i 64 x l, mod-mul-add i 64 x l)))
+
+-- The four words of a class with a test's bytes added, and of a complement.
+pub added-words : (c : ByteClass) (g : ℕ → Bool) (w x y z : ℕ)
+    → w ≡ gathered (λ j. g (0 + j) || member (getD (c .words) 0 0) j) 64
+    → x ≡ gathered (λ j. g (64 + j) || member (getD (c .words) 1 0) j) 64
+    → y ≡ gathered (λ j. g (128 + j) || member (getD (c .words) 2 0) j) 64
+    → z ≡ gathered (λ j. g (192 + j) || member (getD (c .words) 3 0) j) 64
+    → record { words = w ∷ x ∷ y ∷ z ∷ [] } ≡ classOf (λ b. g b || hasByte c b)
+unfolding classOf
+added-words c g w x y z p q r s =
+    let e = wordOf-shared (c .words) g 0 in
+    let f = wordOf-shared (c .words) g 1 in
+    let h = wordOf-shared (c .words) g 2 in
+    let k = wordOf-shared (c .words) g 3 in
+    cc
+
+pub other-words : (c : ByteClass) → getD (c .words) 0 0 < 2 ^ 64 → getD (c .words) 1 0 < 2 ^ 64 → getD (c .words) 2 0 < 2 ^ 64
+    → getD (c .words) 3 0 < 2 ^ 64
+    → record {
+      words =
+          (2 ^ 64 - 1 - getD (c .words) 0 0)
+          ∷ (2 ^ 64 - 1 - getD (c .words) 1 0) ∷ (2 ^ 64 - 1 - getD (c .words) 2 0) ∷ (2 ^ 64 - 1 - getD (c .words) 3 0) ∷ [];
+    }
+    ≡ classOf (λ b. not (hasByte c b))
+unfolding classOf
+other-words c p q r s =
+    let e = wordOf-other (c .words) 0 p in
+    let f = wordOf-other (c .words) 1 q in
+    let h = wordOf-other (c .words) 2 r in
+    let k = wordOf-other (c .words) 3 s in
+    cc
+
+-- A class that is that of a test has exactly the bytes that pass it.
+pub has-by : (c : ByteClass) (f : ℕ → Bool) → c ≡ classOf f → (b : ℕ) → b < 256 → hasByte c b ≡ f b
+has-by c f e b h = rw e (classOf-has f b h)

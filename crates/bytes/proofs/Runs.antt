@@ -79,4 +79,4 @@ module _ (text : List ℕ) (i : ℕ) (h : i < length text) where
         → Ok (record { class = c; length = 1 }) ≡ byteReading text i
     at-ordinary c o k =
         rw k
-          (sym (at-byte ∙ rw (ne-eqb (getD text i 0) 46 dot, ne-eqb (getD text i 0) 92 escape, ne-eqb (getD text i 0) 91 set, o)))
+        (sym (at-byte ∙ rw (ne-eqb (getD text i 0) 46 dot, ne-eqb (getD text i 0) 92 escape, ne-eqb (getD text i 0) 91 set, o)))

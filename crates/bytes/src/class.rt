@@ -1,6 +1,6 @@
 ghost use mathlib.Core.Path.{_≡_};
-ghost use mathlib.Core.Bool.{_||_};
-ghost use Prim.Native.Nat.{_+_, _≤_};
+ghost use mathlib.Core.Bool.{not, _||_};
+ghost use Prim.Native.Nat.{ℕ, _+_, _≤_, _<_};
 ghost use Rattle.sets.specs.Sets.{member, gathered};
 ghost use Rattle.bytes.specs.Class.{hasByte, between, ranged, others, emptyClass, onlyClass};
 use sets::contains;
@@ -37,7 +37,8 @@ impl ByteClass {
 
     // The class with the bytes from first to last added, both included.
     pub fn with_range(self, first: u8, last: u8) -> ByteClass
-        ensures { λ r. ⌜ r ≡ ranged self first last ⌝ }
+        ensures value { λ r. ⌜ r ≡ ranged self first last ⌝ }
+        ensures members { λ r. ⌜ ((b : ℕ) → b < 256 → hasByte r b ≡ (between first last b || hasByte self b)) ⌝ }
     {
         let [a, b, c, d] = self.words;
         let words = [
@@ -51,7 +52,8 @@ impl ByteClass {
 
     // Every byte that the class lacks.
     pub fn complement(self) -> ByteClass
-        ensures { λ r. ⌜ r ≡ others self ⌝ }
+        ensures value { λ r. ⌜ r ≡ others self ⌝ }
+        ensures members { λ r. ⌜ ((b : ℕ) → b < 256 → hasByte r b ≡ not (hasByte self b)) ⌝ }
     {
         let [a, b, c, d] = self.words;
         let words = [!a, !b, !c, !d];

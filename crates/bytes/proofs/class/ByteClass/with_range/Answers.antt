@@ -1,18 +1,11 @@
-use Rattle.bytes.specs.Class.{classOf, between}
-use Rattle.bytes.proofs.Classes.{wordOf-shared}
+use mathlib.Core.Bool.{_||_}
+use Rattle.bytes.specs.Class.{between, hasByte}
+use Rattle.bytes.proofs.Classes.{added-words, has-by}
 use Rattle.bytes.proofs.class.ByteClass.with_range.Needs as need
 
 pub returns : need.returns
-unfolding classOf
 returns c =
-    let words = c .args .self .words in
-    let range = between (c .args .first) (c .args .last) in
-    let w0 = wordOf-shared words range 0 in
-    let w1 = wordOf-shared words range 1 in
-    let w2 = wordOf-shared words range 2 in
-    let w3 = wordOf-shared words range 3 in
-    let e0 = c .with-span .ensures in
-    let e1 = c .with-span-2 .ensures in
-    let e2 = c .with-span-3 .ensures in
-    let e3 = c .with-span-4 .ensures in
-    cc
+    let e =
+    added-words (c .args .self) (between (c .args .first) (c .args .last)) _ _ _ _ (c .with-span .ensures)
+    (c .with-span-2 .ensures) (c .with-span-3 .ensures) (c .with-span-4 .ensures) in
+    record { value = e; members = has-by _ (λ b. between (c .args .first) (c .args .last) b || hasByte (c .args .self) b) e }

@@ -1,0 +1,49 @@
+// The program `prizes`. So far it explains a pattern's text atom by atom: `prizes pattern KIND TEXT`.
+mod asked;
+mod explain;
+mod shown;
+mod words;
+
+use crate::asked::KindName;
+use crate::asked::Request;
+use crate::asked::read_request;
+use crate::explain::explained;
+use crate::shown::BytesShown;
+use bytes::Bytes;
+use std::error::AnyError;
+
+const USAGE: &str = "usage: prizes pattern KIND TEXT
+
+Explains a text that is one atom after another: where each stands, how many bytes spell it, and
+which symbols it admits; or why the text is refused, and where.
+
+KIND  bytes   symbols are bytes, as in the moves of a game file
+      rounds  symbols are a player's rounds: Ww is a win with White, Lb a loss with Black,
+              Du an unplayed round counted as a draw
+";
+
+fn main(rt: LibcRuntime) -> Result<(), AnyError> {
+    let heap = rt.alloc();
+    match read_request(&rt)? {
+        Request::Usage => {
+            rt.print(USAGE)?;
+            Ok(())
+        }
+        Request::Pattern(kind, text) => {
+            let told = match kind {
+                KindName::Bytes => explained::<Bytes>(heap, text.as_str())?,
+                KindName::Rounds => explained::<Bytes>(heap, text.as_str())?,
+            };
+            rt.print(told.lines.as_str())?;
+            if told.refused {
+                Err("the text is refused".into())
+            } else {
+                Ok(())
+            }
+        }
+        Request::Unclear(expected) => {
+            rt.eprintln(expected)?;
+            Err(expected.into())
+        }
+    }
+}
