@@ -31,17 +31,21 @@ whole-span x j m t w l h e = let k = lt-ltb x j (omega arith) in rw k at e
 
 pub loop-j-again : need.loop-j-again
 loop-j-again c = (
-  elim (c .if-first-from .came) [ need.then-first-from·then-from-j w ↦ omega (arith, w .spanned-is) | need.else-first-from w ↦ omega (arith, w .spanned-is) ],
+  elim (c .if-first-from .came) [
+    | need.then-first-from·then-from-j w ↦ omega (arith, w .spanned-is)
+    | need.else-first-from w ↦ omega (arith, w .spanned-is)
+  ],
   λ x l.
       elim (c .if-first-from .came) [
         | need.then-first-from·then-from-j w ↦
-            in-span _ _ _ _ x _ _ _ (w .if-first-from .taken) (w .if-from-j .taken) (c .loop-j .inv .1 x l) (ap (λ s. member s x) (w .spanned-is) ∙ w .insert-spanned .ensures .added x l)
+            in-span (c .args .first) (c .args .last) (c .args .from) (c .loop-j .j) x _ _ _ (omega arith) (omega arith)
+            (c .loop-j .inv .1 x l) (ap (λ s. member s x) (w .spanned-is) ∙ w .insert-spanned .ensures .added x l)
         | need.else-first-from w ↦
             ap (λ s. member s x) (w .spanned-is)
-            ∙ out-of-span _ _ _ _ x _ _
+            ∙ out-of-span (c .args .first) (c .args .last) (c .args .from) (c .loop-j .j) x _ _
             (elim (w .else-first-from .came) [
-              | need.else-first-from·by·then-first-from·else-from-j v ↦ inr (v .if-from-j .left)
-              | need.else-first-from·by·else-first-from v ↦ inl (v .if-first-from .left)
+              | need.else-first-from·by·then-first-from·else-from-j v ↦ inr (omega arith)
+              | need.else-first-from·by·else-first-from v ↦ inl (omega arith)
             ])
             (c .loop-j .inv .1 x l)
       ],
