@@ -17,12 +17,15 @@ use Rattle.kinds.specs.declared.Refusal.{Refusal}
 use Rattle.kinds.specs.declared.Refusal.the-variants.{NoAtom, UnfinishedEscape, UnfinishedSet, BackwardRange, EmptySet}
 use Rattle.kinds.specs.Refusals.{numberOf}
 use Rattle.kinds.specs.Atoms.{refusedAt, noAtom, Operator, isOperator, Within}
+use Rattle.kinds.specs.Language.{Leads, caret, straight}
+use Rattle.kinds.proofs.Language as language
+use Rattle.kinds.proofs.Language.{leads-shorter, Inside}
 use Rattle.kinds.proofs.Operators.{operator-is, not-operator, cases-operator}
 use Rattle.sets.proofs.Bits.{bit-none}
 use Rattle.bytes.specs.declared.class.ByteClass.{ByteClass}
 use Rattle.bytes.specs.Class.{hasByte, between, classOf, ranged, others, emptyClass, onlyClass, Words}
 use Rattle.bytes.specs.Reading.{wholeClass, setFrom, atomFrom, byteReading}
-use Rattle.bytes.specs.Language.{Spelled, plain, escaped, Ranges, Item, Items, none, single, range, NoCaret, Leads, caret, straight, Cut, at-item, at-escape, at-last, Shape, any, only, among, besides, inItems, admittedBy, setShape, Ordinary, Written, dot, escape, set, ordinary, Faulty, ended, operator, cut-escape, cut-set, backward, no-items, AtomAt, FaultAt, ReadAsWritten}
+use Rattle.bytes.specs.Language.{Spelled, plain, escaped, Ranges, Item, Items, none, single, range, Cut, at-item, at-escape, at-last, Shape, any, only, among, besides, inItems, admittedBy, setShape, Ordinary, Written, dot, escape, set, ordinary, Faulty, ended, operator, cut-escape, cut-set, backward, no-items, Exact, ReadAsWritten}
 use Rattle.bytes.proofs.Classes.{class-same, classOf-words, classOf-has}
 use Rattle.bytes.proofs.Sets.{addAll, closed-run, unfinished-run, backward-run, empty-run, leads-run}
 
@@ -92,55 +95,45 @@ items-shorter (single s n r) = let a = spelled-shorter s in let b = items-shorte
 items-shorter (range s t h r) =
     let a = spelled-shorter s in let b = spelled-shorter t in let c = items-shorter r in omega arith
 
-leads-shorter : {text rest : List ℕ} {negated : Bool} → Leads text negated rest → length rest ≤ length text
-leads-shorter caret = omega arith
-leads-shorter (straight n) = omega arith
-
 -- An atom that is written is read.
 
-pub record ReadOk (text rest : List ℕ) (shape : Shape) (i : ℕ) : Type 0 where
-  pub atom : Atom ByteClass
-  pub is : atomFrom text i ≡ Ok atom
-  pub long : atom .length + length rest ≡ length text
-  pub words : Words (atom .class)
-  pub exact : (b : ℕ) → b < 256 → hasByte (atom .class) b ≡ admittedBy shape b
+abbrev ReadOk : List ℕ → List ℕ → Shape → ℕ → Type 0
+ReadOk text rest shape i = language.ReadOk Written Faulty Exact atomFrom text rest shape i
 
-pub written-read : {text rest : List ℕ} {shape : Shape} → Written text shape rest → (i : ℕ) → ReadOk text rest shape i
-written-read dot i =
+exact-only : (c : ℕ) → Exact (only c) (onlyClass c)
+exact-only c = record { words = classOf-words _; members = has-only c }
+
+written-read : (text rest : List ℕ) (shape : Shape) → Written text shape rest → (i : ℕ) → ReadOk text rest shape i
+written-read text rest shape dot i =
     record {
       atom = record { class = others (onlyClass 10); length = 1 };
       is = refl;
       long = omega arith;
-      words = classOf-words _;
-      exact = λ b h. has-others (onlyClass 10) b h ∙ ap not (has-only 10 b h);
+      exact = record { words = classOf-words _; members = λ b h. has-others (onlyClass 10) b h ∙ ap not (has-only 10 b h) };
     }
-written-read (escape {b = c}) i =
-    record { atom = record { class = onlyClass c; length = 2 }; is = refl; long = omega arith; words = classOf-words _; exact = has-only c }
-written-read (set {inside = inside} {rest = rest} {negated = negated} {item = item} {items = items} l r) i =
+written-read text rest shape (escape {b = c}) i =
+    record { atom = record { class = onlyClass c; length = 2 }; is = refl; long = omega arith; exact = exact-only c }
+written-read text rest shape (set {inside = inside} {negated = negated} {item = item} {items = items} l r) i =
     let p = leads-run l i in
     let q = closed-run negated i r (p .0) emptyClass in
     record {
       atom = record { class = wholeClass negated (addAll emptyClass (item ∷ items)); length = q .0 - i };
       is = p .2 ∙ q .2;
       long = let a = leads-shorter l in let b = items-shorter r in omega arith;
-      words = words-whole negated item items;
-      exact = has-whole negated (item ∷ items);
+      exact = record { words = words-whole negated item items; members = has-whole negated (item ∷ items) };
     }
-written-read (ordinary {b = c} o) i =
+written-read text rest shape (ordinary {b = c} o) i =
     record {
       atom = record { class = onlyClass c; length = 1 };
       is = rw (ne-eqb c 46 (o .no-dot), ne-eqb c 92 (o .no-escape), ne-eqb c 91 (o .no-set), not-operator c (o .no-operator));
       long = omega arith;
-      words = classOf-words _;
-      exact = has-only c;
+      exact = exact-only c;
     }
 
 -- A fault is refused.
 
-pub record ReadErr (text here : List ℕ) (why : Refusal) (i : ℕ) : Type 0 where
-  pub place : ℕ
-  pub is : atomFrom text i ≡ refusedAt why place
-  pub placed : place + length here ≡ i + length text
+abbrev ReadErr : List ℕ → List ℕ → Refusal → ℕ → Type 0
+ReadErr text here why i = language.ReadErr Written Faulty Exact atomFrom text here why i
 
 at-operator : (b : ℕ) (rest : List ℕ) (i : ℕ) → Operator b → atomFrom (b ∷ rest) i ≡ noAtom i
 at-operator b rest i h =
@@ -149,18 +142,18 @@ at-operator b rest i h =
     let set : b ≡ 91 → ⊥ = λ e. grind arith in
     rw (ne-eqb b 46 dot, ne-eqb b 92 escape, ne-eqb b 91 set, operator-is b h)
 
-pub faulty-read : {text here : List ℕ} {why : Refusal} → Faulty text why here → (i : ℕ) → ReadErr text here why i
-faulty-read ended i = record { place = i; is = refl; placed = refl }
-faulty-read (operator {b = b} {rest = rest} h) i = record { place = i; is = at-operator b rest i h; placed = refl }
-faulty-read cut-escape i = record { place = i; is = refl; placed = refl }
-faulty-read (cut-set {negated = negated} l r k) i =
+faulty-read : (text here : List ℕ) (why : Refusal) → Faulty text why here → (i : ℕ) → ReadErr text here why i
+faulty-read text here why ended i = record { place = i; is = refl; placed = refl }
+faulty-read text here why (operator {b = b} {rest = rest} h) i = record { place = i; is = at-operator b rest i h; placed = refl }
+faulty-read text here why cut-escape i = record { place = i; is = refl; placed = refl }
+faulty-read text here why (cut-set {negated = negated} l r k) i =
     let p = leads-run l i in
     record { place = i; is = p .2 ∙ unfinished-run negated i r k (p .0) emptyClass; placed = refl }
-faulty-read (backward {negated = negated} l r s t h) i =
+faulty-read text here why (backward {negated = negated} l r s t h) i =
     let p = leads-run l i in
     let q = backward-run negated i r s t h (p .0) emptyClass in
     record { place = q .0; is = p .2 ∙ q .2; placed = omega arith }
-faulty-read (no-items {rest = rest} {negated = negated} l) i =
+faulty-read text here why (no-items {rest = rest} {negated = negated} l) i =
     let p = leads-run l i in
     record { place = i; is = p .2 ∙ empty-run negated i rest (p .0) emptyClass; placed = refl }
 
@@ -234,9 +227,8 @@ walk : (n : ℕ) (text : List ℕ) → length text < n → Walked text
 walk zero text h = absurd (omega arith)
 walk (suc n) text h = one-item text (λ t l. walk n t (omega arith))
 
--- What a text begins with.
 abbrev Outcome : List ℕ → Type 0
-Outcome text = ((shape : Shape) × (rest : List ℕ) × Written text shape rest) ⊎ ((why : Refusal) × (here : List ℕ) × Faulty text why here)
+Outcome text = language.Outcome Written Faulty Exact atomFrom text
 
 set-stopped : {inside start here : List ℕ} {negated : Bool} {items : List Item} → Leads inside negated start → Items start items here
     → Stops here → Outcome (91 ∷ inside)
@@ -269,106 +261,40 @@ outcome (b ∷ rest) = go rest (cases-eq b 46) (cases-eq b 92) (cases-eq b 91) (
 
 -- The reading is what the language says.
 
-same-atom : (a d : Atom ByteClass) → a .class ≡ d .class → a .length ≡ d .length → a ≡ d
-same-atom a d e f =
-    let whole : _≡_ {A = Atom ByteClass} (record { class = a .class; length = a .length }) (record { class = d .class; length = d .length }) = cc in
-    whole
+one-class : (shape : Shape) (c d : ByteClass) → Exact shape c → Exact shape d → c ≡ d
+one-class shape c d v w = class-same c d (v .words) (w .words) (λ b h. v .members b h ∙ sym (w .members b h))
 
-same-refused : (f : Refused) (why : Refusal) (place : ℕ) → f .refusal ≡ why → f .place ≡ place → f ≡ record { refusal = why; place = place }
-same-refused f why place e g =
-    let whole : _≡_ {A = Refused} (record { refusal = f .refusal; place = f .place }) (record { refusal = why; place = place }) = cc in
-    whole
-
-module _ (text : List ℕ) (i : ℕ) where
-  reading-is : byteReading text i ≡ atomFrom (drop i text) i
-  unfolding byteReading
-  reading-is = refl
-
-  atom-read : (a : Atom ByteClass) → AtomAt text i a → byteReading text i ≡ Ok a
-  atom-read a w =
-      let o = written-read (w .written) i in
-      let n : o .atom .length ≡ a .length = let l = o .long in let m = w .long in omega arith in
-      let c = class-same (o .atom .class) (a .class) (o .words) (w .words) (λ b h. o .exact b h ∙ sym (w .exact b h)) in
-      reading-is ∙ o .is ∙ ap Ok (same-atom (o .atom) a c n)
-
-  fault-read : (f : Refused) → FaultAt text i f → byteReading text i ≡ Err f
-  fault-read f w =
-      let o = faulty-read (w .faulty) i in
-      let n : f .place ≡ o .place = let l = o .placed in let m = w .placed in omega arith in
-      reading-is ∙ o .is ∙ ap Err (sym (same-refused f (f .refusal) (o .place) refl n))
-
-  -- Whatever the reading is, the language has it.
-  abbrev Told : Type 0
-  Told = ((a : Atom ByteClass) × AtomAt text i a × (byteReading text i ≡ Ok a)) ⊎ ((f : Refused) × FaultAt text i f × (byteReading text i ≡ Err f))
-
-  told : Told
-  told = go (outcome (drop i text))
-    where
-      go : Outcome (drop i text) → Told
-      go (inl (shape, rest, w)) =
-          let o = written-read w i in
-          inl (o .atom, record { shape = shape; rest = rest; written = w; long = o .long; words = o .words; exact = o .exact }, reading-is ∙ o .is)
-      go (inr (why, here, w)) =
-          let o = faulty-read w i in
-          inr (record { refusal = why; place = o .place }, record { here = here; faulty = w; placed = o .placed }, reading-is ∙ o .is)
-
-  atom-told : (a : Atom ByteClass) → byteReading text i ≡ Ok a → Told → AtomAt text i a
-  atom-told a e (inl (d, w, f)) = let g : d ≡ a = cc in subst (AtomAt text i) g w
-  atom-told a e (inr (d, w, f)) = let z : _≡_ {A = ℕ} 0 1 = cc in absurd (omega arith)
-
-  fault-told : (f : Refused) → byteReading text i ≡ Err f → Told → FaultAt text i f
-  fault-told f e (inl (d, w, g)) = let z : _≡_ {A = ℕ} 0 1 = cc in absurd (omega arith)
-  fault-told f e (inr (d, w, g)) = let h : d ≡ f = cc in subst (FaultAt text i) h w
-
-  pub read-as-written : ReadAsWritten text i (byteReading text i)
-  read-as-written =
-      record {
-        accepted = λ a. (λ e. atom-told a e told, atom-read a);
-        refused = λ f. (λ e. fault-told f e told, fault-read f);
-      }
+pub read-as-written : (text : List ℕ) (i : ℕ) → ReadAsWritten text i (byteReading text i)
+unfolding byteReading
+read-as-written text i = language.read-as-written Written Faulty Exact atomFrom one-class written-read faulty-read outcome text i
 
 -- What every kind's reading is like.
 
-written-shorter : {text rest : List ℕ} {shape : Shape} → Written text shape rest → length rest < length text
-written-shorter dot = omega arith
-written-shorter escape = omega arith
-written-shorter (set l r) = let a = leads-shorter l in let b = items-shorter r in omega arith
-written-shorter (ordinary o) = omega arith
+written-shorter : (text rest : List ℕ) (shape : Shape) → Written text shape rest → length rest < length text
+written-shorter text rest shape dot = omega arith
+written-shorter text rest shape escape = omega arith
+written-shorter text rest shape (set l r) = let a = leads-shorter l in let b = items-shorter r in omega arith
+written-shorter text rest shape (ordinary o) = omega arith
 
--- A fault in what is left of a text is one of the five of atoms, and its place is within what is left.
-record Inside (text : List ℕ) (why : Refusal) (here : List ℕ) : Type 0 where
-  low : 3 ≤ numberOf why
-  high : numberOf why ≤ 7
-  some : 0 < length text → 0 < length here
-  part : length here ≤ length text
+at-start : (b : ℕ) (rest : List ℕ) (why : Refusal) → 3 ≤ numberOf why → numberOf why ≤ 7 → Inside (b ∷ rest) why (b ∷ rest)
+at-start b rest why l h = record { low = l; high = h; some = λ z. z; part = omega arith }
 
-faulty-inside : {text here : List ℕ} {why : Refusal} → Faulty text why here → Inside text why here
-faulty-inside ended = record { low = omega arith; high = omega arith; some = λ h. h; part = omega arith }
-faulty-inside (operator o) = record { low = omega arith; high = omega arith; some = λ h. h; part = omega arith }
-faulty-inside cut-escape = record { low = omega arith; high = omega arith; some = λ h. h; part = omega arith }
-faulty-inside (cut-set l r k) = record { low = omega arith; high = omega arith; some = λ h. h; part = omega arith }
-faulty-inside (backward l r s t h) =
+faulty-inside : (text here : List ℕ) (why : Refusal) → Faulty text why here → Inside text why here
+faulty-inside text here why ended = record { low = omega arith; high = omega arith; some = λ z. z; part = omega arith }
+faulty-inside text here why (operator {b = b} {rest = rest} o) = at-start b rest NoAtom (omega arith) (omega arith)
+faulty-inside text here why cut-escape = at-start 92 [] UnfinishedEscape (omega arith) (omega arith)
+faulty-inside text here why (cut-set {inside = inside} l r k) = at-start 91 inside UnfinishedSet (omega arith) (omega arith)
+faulty-inside text here why (backward l r s t h) =
     let a = leads-shorter l in
     let b = items-shorter r in
     let c = spelled-shorter s in
     record { low = omega arith; high = omega arith; some = λ z. omega arith; part = omega arith }
-faulty-inside (no-items l) = record { low = omega arith; high = omega arith; some = λ h. h; part = omega arith }
+faulty-inside text here why (no-items {inside = inside} l) = at-start 91 inside EmptySet (omega arith) (omega arith)
 
 pub reading-within : (text : List ℕ) (i : ℕ) → i < length text → Within text i (byteReading text i)
-reading-within text i h = go (told text i)
-  where
-    go : Told text i → Within text i (byteReading text i)
-    go (inl (a, w, e)) =
-        let n = length-drop i text in
-        let s = written-shorter (w .written) in
-        let l = w .long in
-        rw e (omega arith, omega arith)
-    go (inr (f, w, e)) =
-        let n = length-drop i text in
-        let s = faulty-inside (w .faulty) in
-        let l = w .placed in
-        let z = s .some (omega arith) in
-        rw e (s .low, s .high, omega arith, omega arith)
+unfolding byteReading
+reading-within text i h =
+    language.read-within Written Faulty Exact atomFrom one-class written-read faulty-read outcome written-shorter faulty-inside text i h
 
 pub reading-beyond : (text : List ℕ) (i : ℕ) → length text ≤ i → byteReading text i ≡ noAtom i
 unfolding byteReading

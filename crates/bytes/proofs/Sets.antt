@@ -12,12 +12,13 @@ use Rattle.kinds.specs.declared.Atom.{Atom}
 use Rattle.kinds.specs.declared.Refused.{Refused}
 use Rattle.kinds.specs.declared.Refusal.the-variants.{UnfinishedSet, BackwardRange, EmptySet}
 use Rattle.kinds.specs.Atoms.{refusedAt}
+use Rattle.kinds.specs.Language.{Leads, caret, straight}
 use Rattle.bytes.specs.declared.class.ByteClass.{ByteClass}
 use Rattle.bytes.specs.declared.set.SetState.{SetState}
 use Rattle.bytes.specs.declared.set.SetState.the-variants.{Start, Between, Escape, First, Dash, LastEscape}
 use Rattle.bytes.specs.Class.{ranged, emptyClass}
 use Rattle.bytes.specs.Reading.{wholeClass, runSet, setFrom}
-use Rattle.bytes.specs.Language.{Spelled, plain, escaped, Ranges, Item, Items, none, single, range, NoCaret, Leads, caret, straight, Cut, at-item, at-escape, at-last}
+use Rattle.bytes.specs.Language.{Spelled, plain, escaped, Ranges, Item, Items, none, single, range, Cut, at-item, at-escape, at-last}
 
 -- The class of the items, added to a class one by one.
 abbrev pub addAll : ByteClass → List Item → ByteClass

@@ -1,17 +1,16 @@
 use mathlib.Core.Path.{_≡_}
-use mathlib.Core.Bool.{Bool, true, false, cond, not, _||_}
+use mathlib.Core.Bool.{Bool, false, cond, not, _||_}
 use mathlib.Core.List.{List, [], _∷_}
-use mathlib.Core.Logic.{_↔_}
-use Prim.Native.Nat.{ℕ, _+_, _≤_, _<_}
+use Prim.Native.Nat.{ℕ, _≤_, _<_}
 use lib.Dec.{eqb}
-use lib.ListN.{length, drop}
 use Rattle.std.specs.declared.result.Result.{Result}
-use Rattle.std.specs.declared.result.Result.the-variants.{Ok, Err}
 use Rattle.kinds.specs.declared.Atom.{Atom}
 use Rattle.kinds.specs.declared.Refused.{Refused}
 use Rattle.kinds.specs.declared.Refusal.{Refusal}
 use Rattle.kinds.specs.declared.Refusal.the-variants.{NoAtom, UnfinishedEscape, UnfinishedSet, BackwardRange, EmptySet}
 use Rattle.kinds.specs.Atoms.{Operator}
+use Rattle.kinds.specs.Language as language
+use Rattle.kinds.specs.Language.{Leads}
 use Rattle.bytes.specs.declared.class.ByteClass.{ByteClass}
 use Rattle.bytes.specs.Class.{hasByte, between, Words}
 
@@ -40,15 +39,6 @@ pub data Items : List ℕ → List Item → List ℕ → Type 0 where
       → Items after items rest → Items text (record { first = b; last = b } ∷ items) rest
   range : {text after next rest : List ℕ} {b c : ℕ} {items : List Item} → Spelled text b (45 ∷ after)
       → Spelled after c next → b ≤ c → Items next items rest → Items text (record { first = b; last = c } ∷ items) rest
-
--- Behind `[`, a leading `^` asks for the complement.
-abbrev pub NoCaret : List ℕ → Type 0
-NoCaret [] = Unit {0}
-NoCaret (b ∷ rest) = b ≡ 94 → ⊥
-
-pub data Leads : List ℕ → Bool → List ℕ → Type 0 where
-  caret : {rest : List ℕ} → Leads (94 ∷ rest) true rest
-  straight : {text : List ℕ} → NoCaret text → Leads text false text
 
 -- What an atom says of bytes.
 pub data Shape : Type 0 where
@@ -105,24 +95,11 @@ pub data Faulty : List ℕ → Refusal → List ℕ → Type 0 where
   no-items : {inside rest : List ℕ} {negated : Bool} → Leads inside negated (93 ∷ rest)
       → Faulty (91 ∷ inside) EmptySet (91 ∷ inside)
 
--- The atom at a place of a text: it is written there, ends where the rest begins, and admits exactly
--- the bytes of its shape.
-pub record AtomAt (text : List ℕ) (i : ℕ) (a : Atom ByteClass) : Type 0 where
-  pub shape : Shape
-  pub rest : List ℕ
-  pub written : Written (drop i text) shape rest
-  pub long : a .length + length rest ≡ length (drop i text)
-  pub words : Words (a .class)
-  pub exact : (b : ℕ) → b < 256 → hasByte (a .class) b ≡ admittedBy shape b
+-- The class admits exactly the bytes of the shape.
+pub record Exact (shape : Shape) (c : ByteClass) : Type 0 where
+  pub words : Words c
+  pub members : (b : ℕ) → b < 256 → hasByte c b ≡ admittedBy shape b
 
--- The fault at a place of a text.
-pub record FaultAt (text : List ℕ) (i : ℕ) (f : Refused) : Type 0 where
-  pub here : List ℕ
-  pub faulty : Faulty (drop i text) (f .refusal) here
-  pub placed : f .place + length here ≡ i + length (drop i text)
-
--- A reading is exactly what the language says: an atom where one is written, and a refusal where
--- there is that fault.
-pub record ReadAsWritten (text : List ℕ) (i : ℕ) (r : Result (Atom ByteClass) Refused) : Type 0 where
-  pub accepted : (a : Atom ByteClass) → (r ≡ Ok a) ↔ AtomAt text i a
-  pub refused : (f : Refused) → (r ≡ Err f) ↔ FaultAt text i f
+-- A reading is exactly what the language of bytes says.
+abbrev pub ReadAsWritten : List ℕ → ℕ → Result (Atom ByteClass) Refused → Type 0
+ReadAsWritten text i r = language.ReadAsWritten Written Faulty Exact text i r
