@@ -5,6 +5,8 @@ mod tests {
     use bytes::Bytes;
     use bytes::BytesKind;
     use kinds::Kind;
+    use rounds::Rounds;
+    use rounds::RoundsKind;
     use std::test::*;
 
     // What is read at a place of a text.
@@ -173,5 +175,67 @@ mod tests {
             },
         ];
         check_eq(first_wrong::<Bytes>(&cases), None)
+    }
+
+    // Rounds by number: Ww 0, Dw 1, Lw 2, Wb 3, Db 4, Lb 5, Wu 6, Du 7, Lu 8.
+    #[test]
+    fn rounds_as_worked_by_hand() -> Result<(), Fail> {
+        let cases = [
+            read(b"Wb", 2, &[(3, 3)]),
+            read(b"W", 1, &[(0, 0), (3, 3), (6, 6)]),
+            read(b"D", 1, &[(1, 1), (4, 4), (7, 7)]),
+            read(b"LL", 1, &[(2, 2), (5, 5), (8, 8)]),
+            read(b"Du", 2, &[(7, 7)]),
+            read(b"Lw", 2, &[(2, 2)]),
+            read(b"Www", 2, &[(0, 0)]),
+            read(b".", 1, &[(0, 8)]),
+            read(b"[WwLb]", 6, &[(0, 0), (5, 5)]),
+            read(b"[^W]", 4, &[(1, 2), (4, 5), (7, 8)]),
+            read(b"[WD]", 4, &[(0, 1), (3, 4), (6, 7)]),
+            read(b"[WuW]", 5, &[(0, 0), (3, 3), (6, 6)]),
+            read(b"[^WDL]", 6, &[]),
+            read(b"[L]]", 3, &[(2, 2), (5, 5), (8, 8)]),
+            refused(b"w", 3, 0),
+            refused(b"X", 3, 0),
+            refused(b"\\W", 3, 0),
+            refused(b"]", 3, 0),
+            refused(b"^", 3, 0),
+            refused(b"(", 3, 0),
+            refused(b"?", 3, 0),
+            refused(b"", 3, 0),
+            refused(b"[.]", 3, 1),
+            refused(b"[w]", 3, 1),
+            refused(b"[Wwb]", 3, 3),
+            refused(b"[^^W]", 3, 2),
+            refused(b"[W-D]", 3, 2),
+            refused(b"[W.", 3, 2),
+            refused(b"[", 5, 0),
+            refused(b"[^", 5, 0),
+            refused(b"[W", 5, 0),
+            refused(b"[Ww", 5, 0),
+            refused(b"[]", 7, 0),
+            refused(b"[^]", 7, 0),
+            Case {
+                place: 2,
+                ..refused(b"Www", 3, 2)
+            },
+            Case {
+                place: 1,
+                ..refused(b"W", 3, 1)
+            },
+            Case {
+                place: 1,
+                ..refused(b"W[D.", 3, 3)
+            },
+            Case {
+                place: 2,
+                ..refused(b"Ww[", 5, 2)
+            },
+            Case {
+                place: 2,
+                ..read(b"LLWb", 2, &[(3, 3)])
+            },
+        ];
+        check_eq(first_wrong::<Rounds>(&cases), None)
     }
 }

@@ -19,8 +19,9 @@ use Rattle.kinds.specs.Refusals.{numberOf}
 use Rattle.kinds.specs.Atoms.{refusedAt, noAtom, Operator, isOperator, Within}
 use Rattle.kinds.specs.Language.{Leads, caret, straight}
 use Rattle.kinds.proofs.Language as language
-use Rattle.kinds.proofs.Language.{leads-shorter, Inside}
+use Rattle.kinds.proofs.Language.{leads-shorter, Inside, at-start}
 use Rattle.kinds.proofs.Operators.{operator-is, not-operator, cases-operator}
+use Rattle.sets.proofs.Bools.{or-false, or-swap}
 use Rattle.sets.proofs.Bits.{bit-none}
 use Rattle.bytes.specs.declared.class.ByteClass.{ByteClass}
 use Rattle.bytes.specs.Class.{hasByte, between, classOf, ranged, others, emptyClass, onlyClass, Words}
@@ -51,21 +52,11 @@ has-others c b h = classOf-has (λ x. not (hasByte c x)) b h
 has-only : (c b : ℕ) → b < 256 → hasByte (onlyClass c) b ≡ eqb b c
 has-only c b h = has-ranged emptyClass c c b h ∙ rw (no-byte b) (grind (arith, tells))
 
-or-swap : (x y z : Bool) → (x || (y || z)) ≡ ((y || x) || z)
-or-swap true true z = refl
-or-swap true false z = refl
-or-swap false true z = refl
-or-swap false false z = refl
-
 has-all : (items : List Item) (c : ByteClass) (b : ℕ) → b < 256 → hasByte (addAll c items) b ≡ (inItems items b || hasByte c b)
 has-all [] c b h = refl
 has-all (item ∷ items) c b h =
     has-all items (ranged c (item .first) (item .last)) b h
     ∙ rw (has-ranged c (item .first) (item .last) b h) (or-swap (inItems items b) (between (item .first) (item .last) b) (hasByte c b))
-
-or-false : (x : Bool) → (x || false) ≡ x
-or-false true = refl
-or-false false = refl
 
 has-items : (items : List Item) (b : ℕ) → b < 256 → hasByte (addAll emptyClass items) b ≡ inItems items b
 has-items items b h = has-all items emptyClass b h ∙ rw (no-byte b) (or-false (inItems items b))
@@ -275,9 +266,6 @@ written-shorter text rest shape dot = omega arith
 written-shorter text rest shape escape = omega arith
 written-shorter text rest shape (set l r) = let a = leads-shorter l in let b = items-shorter r in omega arith
 written-shorter text rest shape (ordinary o) = omega arith
-
-at-start : (b : ℕ) (rest : List ℕ) (why : Refusal) → 3 ≤ numberOf why → numberOf why ≤ 7 → Inside (b ∷ rest) why (b ∷ rest)
-at-start b rest why l h = record { low = l; high = h; some = λ z. z; part = omega arith }
 
 faulty-inside : (text here : List ℕ) (why : Refusal) → Faulty text why here → Inside text why here
 faulty-inside text here why ended = record { low = omega arith; high = omega arith; some = λ z. z; part = omega arith }

@@ -36,6 +36,9 @@ pub record Inside (text : List ℕ) (why : Refusal) (here : List ℕ) : Type 0 w
   pub some : 0 < length text → 0 < length here
   pub part : length here ≤ length text
 
+pub at-start : (b : ℕ) (rest : List ℕ) (why : Refusal) → 3 ≤ numberOf why → numberOf why ≤ 7 → Inside (b ∷ rest) why (b ∷ rest)
+at-start b rest why l h = record { low = l; high = h; some = λ z. z; part = omega arith }
+
 -- A kind's language, and the reading from what is left of a text and its place.
 module _ {Shape C : Type 0} (Written : List ℕ → Shape → List ℕ → Type 0) (Faulty : List ℕ → Refusal → List ℕ → Type 0)
     (Exact : Shape → C → Type 0) (from : List ℕ → ℕ → Result (Atom C) Refused) where

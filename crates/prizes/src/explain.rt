@@ -82,3 +82,85 @@ fn tell_refused(
 fn begins_character(byte: u8) -> bool {
     byte < 128 || byte >= 192
 }
+
+#[cfg(test)]
+mod tests {
+    use super::*;
+    use crate::shown::BytesShown;
+    use crate::shown::RoundsShown;
+    use bytes::Bytes;
+    use rounds::Rounds;
+    use std::test::*;
+
+    // A text with what is to be told of it.
+    #[derive(Clone, Copy)]
+    struct Told {
+        text: &'static str,
+        told: &'static str,
+    }
+
+    const fn line(text: &'static str, told: &'static str) -> Told {
+        Told { text, told }
+    }
+
+    // The first line of a table that is told otherwise, counted from 0.
+    fn first_wrong<K: Shown>(heap: Global, table: &[Told]) -> Result<Option<usize>, AllocError> {
+        for (i, line) in table.iter().enumerate() {
+            let told = explained::<K>(heap, line.text)?;
+            if told.lines.as_str() != line.told {
+                return Ok(Some(i));
+            }
+        }
+        Ok(None)
+    }
+
+    #[test]
+    fn bytes_are_told_as_runs(rt: LibcRuntime) -> Result<(), Fail> {
+        let table = [
+            line("[a-c]", "atom at 0, 5 bytes: admits 'a'-'c'\n"),
+            line(".", "atom at 0, 1 byte: admits 0x00-0x09 0x0b-0xff\n"),
+            line("[^a]", "atom at 0, 4 bytes: admits 0x00-'`' 'b'-0xff\n"),
+            line("[a-]", "atom at 0, 4 bytes: admits '-' 'a'\n"),
+            line(
+                " ~",
+                "atom at 0, 1 byte: admits 0x20\natom at 1, 1 byte: admits '~'\n",
+            ),
+            line(
+                "[b-a]",
+                "[b-a]\n ^\nrefused 6 at 1: the range that begins here runs backward: its last byte comes before its first\n",
+            ),
+            line(
+                "a\\",
+                "atom at 0, 1 byte: admits 'a'\na\\\n ^\nrefused 4 at 1: the text ends here, and `\\` wants a byte after it\n",
+            ),
+            // é has two bytes, and the caret counts it as one character
+            line(
+                "é[",
+                "atom at 0, 1 byte: admits 0xc3\natom at 1, 1 byte: admits 0xa9\né[\n ^\nrefused 5 at 2: this set has no `]`\n",
+            ),
+            line(
+                "\t[]",
+                "atom at 0, 1 byte: admits 0x09\n?[]\n ^\nrefused 7 at 1: this set has nothing in it\n",
+            ),
+        ];
+        check_eq(first_wrong::<Bytes>(rt.alloc(), &table)?, None)
+    }
+
+    #[test]
+    fn rounds_are_told_as_units(rt: LibcRuntime) -> Result<(), Fail> {
+        let table = [
+            line(
+                "LWb",
+                "atom at 0, 1 byte: admits Lw Lb Lu\natom at 1, 2 bytes: admits Wb\n",
+            ),
+            line("[^WDL]", "atom at 0, 6 bytes: admits\n"),
+            line("[Ww", "[Ww\n^\nrefused 5 at 0: this set has no `]`\n"),
+            line(
+                "w",
+                "w\n^\nrefused 3 at 0: nothing that can be matched begins with this byte\n",
+            ),
+            line("", "\n^\nrefused 1 at 0: a pattern has 1 to 1,024 bytes\n"),
+        ];
+        check_eq(first_wrong::<Rounds>(rt.alloc(), &table)?, None)
+    }
+}

@@ -9,7 +9,9 @@ use crate::asked::Request;
 use crate::asked::read_request;
 use crate::explain::explained;
 use crate::shown::BytesShown;
+use crate::shown::RoundsShown;
 use bytes::Bytes;
+use rounds::Rounds;
 use std::error::AnyError;
 
 const USAGE: &str = "usage: prizes pattern KIND TEXT
@@ -32,7 +34,7 @@ fn main(rt: LibcRuntime) -> Result<(), AnyError> {
         Request::Pattern(kind, text) => {
             let told = match kind {
                 KindName::Bytes => explained::<Bytes>(heap, text.as_str())?,
-                KindName::Rounds => explained::<Bytes>(heap, text.as_str())?,
+                KindName::Rounds => explained::<Rounds>(heap, text.as_str())?,
             };
             rt.print(told.lines.as_str())?;
             if told.refused {

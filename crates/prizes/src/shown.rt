@@ -8,6 +8,12 @@ use bytes::ByteClass;
 use bytes::Bytes;
 use bytes::BytesKind;
 use kinds::Kind;
+use rounds::Outcome;
+use rounds::Round;
+use rounds::RoundClass;
+use rounds::Rounds;
+use rounds::RoundsKind;
+use rounds::Side;
 use std::alloc::AllocError;
 use std::alloc::Global;
 
@@ -60,5 +66,37 @@ fn show_byte(heap: Global, byte: u8, out: &mut String) -> Result<(), AllocError>
         out.push_str(format!(heap, "'{shown}'")?.as_str())
     } else {
         out.push_str(format!(heap, "0x{byte:02x}")?.as_str())
+    }
+}
+
+pub impl Shown for Rounds as RoundsShown {
+    // Rounds as units, in the order of their numbers.
+    fn show(_heap: Global, class: RoundClass, out: &mut String) -> Result<(), AllocError> {
+        for number in 0..9 {
+            if class.has(number) {
+                if let Some(round) = Round::of_number(number) {
+                    out.push(' ')?;
+                    out.push(outcome_letter(round.outcome))?;
+                    out.push(side_letter(round.side))?;
+                }
+            }
+        }
+        Ok(())
+    }
+}
+
+fn outcome_letter(outcome: Outcome) -> char {
+    match outcome {
+        Outcome::Win => 'W',
+        Outcome::Draw => 'D',
+        Outcome::Loss => 'L',
+    }
+}
+
+fn side_letter(side: Side) -> char {
+    match side {
+        Side::White => 'w',
+        Side::Black => 'b',
+        Side::Unplayed => 'u',
     }
 }

@@ -14,6 +14,7 @@ use Rattle.std.proofs.shelf.Ways.{tells}
 use Rattle.std.proofs.shelf.Bits.{mod-below, div-below}
 use Rattle.sets.specs.Sets.{bit, Member, member, gathered, members}
 use Rattle.sets.specs.Laws.{SetLaws}
+use Rattle.sets.proofs.Bools.{or-comm}
 
 -- Bits of a union and of an intersection.
 low-or : (m n : ℕ) → bitOr m n % 2 ≡ max (m % 2) (n % 2)
@@ -198,12 +199,6 @@ sets-same n a b h k same = bits-same n a b h k (λ x l. let e = same x l in let 
 
 pub member-added : (a x y : ℕ) → member (bitOr a (2 ^ x)) y ≡ (eqb y x || member a y)
 member-added a x y = member-or a (2 ^ x) y ∙ rw (member-single x y) (or-comm (member a y) (eqb y x))
-  where
-    or-comm : (p q : Bool) → (p || q) ≡ (q || p)
-    or-comm true true = refl
-    or-comm true false = refl
-    or-comm false true = refl
-    or-comm false false = refl
 
 pub Member-or : (a b x : ℕ) → Member (bitOr a b) x ↔ (Member a x ⊎ Member b x)
 Member-or a b x = (go, back)

@@ -1,0 +1,4 @@
+pub mod Symbols
+pub mod Class
+pub mod Reading
+pub mod Language
