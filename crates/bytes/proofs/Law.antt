@@ -1,22 +1,17 @@
-use mathlib.Core.Path.{_≡_, refl, sym, _∙_, ap, subst}
-use mathlib.Core.Bool.{Bool, true, false, cond, not, _&&_, _||_}
+use mathlib.Core.Path.{_≡_, refl, sym, _∙_, ap}
+use mathlib.Core.Bool.{Bool, true, false, not, _||_}
 use mathlib.Core.List.{List, [], _∷_}
-use mathlib.Core.Logic.{_⊎_, inl, inr, _↔_}
+use mathlib.Core.Logic.{_⊎_, inl, inr}
 use Prim.Native.Nat.{ℕ, zero, suc, _+_, _-_, _/_, _%_, _^_, _≤_, _<_}
 use native.Mathlib.Omega.{arith}
-use lib.Dec.{eqb, leb}
+use lib.Dec.{eqb}
 use lib.ListN.{length, drop, getD}
-use Rattle.std.proofs.shelf.Tests.{eq-eqb, ne-eqb, lt-ltb, le-ltb, cases-eq, cases-lt, cond-true, cond-false}
+use Rattle.std.proofs.shelf.Tests.{ne-eqb, cases-eq, cases-lt}
 use Rattle.std.proofs.shelf.Ways.{tells}
-use Rattle.std.proofs.shelf.Lists.{drop-more, drop-all, length-drop}
-use Rattle.std.specs.declared.result.Result.{Result}
-use Rattle.std.specs.declared.result.Result.the-variants.{Ok, Err}
-use Rattle.kinds.specs.declared.Atom.{Atom}
-use Rattle.kinds.specs.declared.Refused.{Refused}
+use Rattle.std.proofs.shelf.Lists.{drop-more, drop-all}
 use Rattle.kinds.specs.declared.Refusal.{Refusal}
 use Rattle.kinds.specs.declared.Refusal.the-variants.{NoAtom, UnfinishedEscape, UnfinishedSet, BackwardRange, EmptySet}
-use Rattle.kinds.specs.Refusals.{numberOf}
-use Rattle.kinds.specs.Atoms.{refusedAt, noAtom, Operator, isOperator, Within}
+use Rattle.kinds.specs.Atoms.{noAtom, Operator, Within}
 use Rattle.kinds.specs.Language.{Leads, caret, straight}
 use Rattle.kinds.proofs.Language as language
 use Rattle.kinds.proofs.Language.{leads-shorter, Inside, at-start}
@@ -24,9 +19,9 @@ use Rattle.kinds.proofs.Operators.{operator-is, not-operator, cases-operator}
 use Rattle.sets.proofs.Bools.{or-false, or-swap}
 use Rattle.sets.proofs.Bits.{bit-none}
 use Rattle.bytes.specs.declared.class.ByteClass.{ByteClass}
-use Rattle.bytes.specs.Class.{hasByte, between, classOf, ranged, others, emptyClass, onlyClass, Words}
-use Rattle.bytes.specs.Reading.{wholeClass, setFrom, atomFrom, byteReading}
-use Rattle.bytes.specs.Language.{Spelled, plain, escaped, Ranges, Item, Items, none, single, range, Cut, at-item, at-escape, at-last, Shape, any, only, among, besides, inItems, admittedBy, setShape, Ordinary, Written, dot, escape, set, ordinary, Faulty, ended, operator, cut-escape, cut-set, backward, no-items, Exact, ReadAsWritten}
+use Rattle.bytes.specs.Class.{hasByte, between, ranged, others, emptyClass, onlyClass, Words}
+use Rattle.bytes.specs.Reading.{wholeClass, atomFrom, byteReading}
+use Rattle.bytes.specs.Language.{Spelled, plain, escaped, Ranges, Item, Items, none, single, range, Cut, at-item, at-escape, at-last, Shape, any, only, inItems, admittedBy, setShape, Written, dot, escape, set, ordinary, Faulty, ended, operator, cut-escape, cut-set, backward, no-items, Exact, ReadAsWritten}
 use Rattle.bytes.proofs.Classes.{class-same, classOf-words, classOf-has}
 use Rattle.bytes.proofs.Sets.{addAll, closed-run, unfinished-run, backward-run, empty-run, leads-run}
 

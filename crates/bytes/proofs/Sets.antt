@@ -1,11 +1,11 @@
-use mathlib.Core.Path.{_≡_, refl, sym, _∙_, ap}
-use mathlib.Core.Bool.{Bool, true, false, cond}
+use mathlib.Core.Path.{_≡_, refl, _∙_}
+use mathlib.Core.Bool.{Bool}
 use mathlib.Core.List.{List, [], _∷_}
 use mathlib.Core.Logic.{_⊎_, inl, inr}
-use Prim.Native.Nat.{ℕ, suc, _+_, _-_, _≤_, _<_}
+use Prim.Native.Nat.{ℕ, _+_, _-_, _≤_, _<_}
 use native.Mathlib.Omega.{arith}
 use lib.ListN.{length}
-use Rattle.std.proofs.shelf.Tests.{eq-eqb, ne-eqb, lt-ltb, le-ltb, cases-eq}
+use Rattle.std.proofs.shelf.Tests.{ne-eqb, lt-ltb, le-ltb, cases-eq}
 use Rattle.std.specs.declared.result.Result.{Result}
 use Rattle.std.specs.declared.result.Result.the-variants.{Ok}
 use Rattle.kinds.specs.declared.Atom.{Atom}
@@ -15,7 +15,7 @@ use Rattle.kinds.specs.Atoms.{refusedAt}
 use Rattle.kinds.specs.Language.{Leads, caret, straight}
 use Rattle.bytes.specs.declared.class.ByteClass.{ByteClass}
 use Rattle.bytes.specs.declared.set.SetState.{SetState}
-use Rattle.bytes.specs.declared.set.SetState.the-variants.{Start, Between, Escape, First, Dash, LastEscape}
+use Rattle.bytes.specs.declared.set.SetState.the-variants.{Start, Between, First, Dash}
 use Rattle.bytes.specs.Class.{ranged, emptyClass}
 use Rattle.bytes.specs.Reading.{wholeClass, runSet, setFrom}
 use Rattle.bytes.specs.Language.{Spelled, plain, escaped, Ranges, Item, Items, none, single, range, Cut, at-item, at-escape, at-last}

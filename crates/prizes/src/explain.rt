@@ -7,13 +7,13 @@ use std::alloc::Global;
 
 // What is told of a text: a line for each atom, or up to the fault that has it refused.
 #[derive(Drop)]
-pub struct Explanation {
+pub(crate) struct Explanation {
     pub lines: String,
     pub refused: bool,
 }
 
 // Explains a text that is one atom after another.
-pub fn explained<K: Shown>(heap: Global, text: &str) -> Result<Explanation, AllocError> {
+pub(crate) fn explained<K: Shown>(heap: Global, text: &str) -> Result<Explanation, AllocError> {
     let bytes = text.as_bytes();
     let mut lines = String::new(heap);
     if bytes.is_empty() || bytes.len() > 1024 {
@@ -94,17 +94,20 @@ mod tests {
 
     // A text with what is to be told of it.
     #[derive(Clone, Copy)]
-    struct Told {
+    struct Expected {
         text: &'static str,
         told: &'static str,
     }
 
-    const fn line(text: &'static str, told: &'static str) -> Told {
-        Told { text, told }
+    const fn line(text: &'static str, told: &'static str) -> Expected {
+        Expected { text, told }
     }
 
     // The first line of a table that is told otherwise, counted from 0.
-    fn first_wrong<K: Shown>(heap: Global, table: &[Told]) -> Result<Option<usize>, AllocError> {
+    fn first_wrong<K: Shown>(
+        heap: Global,
+        table: &[Expected],
+    ) -> Result<Option<usize>, AllocError> {
         for (i, line) in table.iter().enumerate() {
             let told = explained::<K>(heap, line.text)?;
             if told.lines.as_str() != line.told {

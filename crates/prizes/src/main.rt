@@ -1,12 +1,12 @@
 // The program `prizes`. So far it explains a pattern's text atom by atom: `prizes pattern KIND TEXT`.
-mod asked;
+mod command;
 mod explain;
 mod shown;
 mod words;
 
-use crate::asked::KindName;
-use crate::asked::Request;
-use crate::asked::read_request;
+use crate::command::Command;
+use crate::command::KindName;
+use crate::command::read_command;
 use crate::explain::explained;
 use crate::shown::BytesShown;
 use crate::shown::RoundsShown;
@@ -25,16 +25,22 @@ KIND  bytes   symbols are bytes, as in the moves of a game file
 ";
 
 fn main(rt: LibcRuntime) -> Result<(), AnyError> {
-    let heap = rt.alloc();
-    match read_request(&rt)? {
-        Request::Usage => {
+    let command = match read_command(&rt) {
+        Ok(command) => command,
+        Err(fault) => {
+            rt.eprintln("prizes: the arguments are expected to be UTF-8 text")?;
+            return Err(fault.into());
+        }
+    };
+    match command {
+        Command::Usage => {
             rt.print(USAGE)?;
             Ok(())
         }
-        Request::Pattern(kind, text) => {
+        Command::Pattern(kind, text) => {
             let told = match kind {
-                KindName::Bytes => explained::<Bytes>(heap, text.as_str())?,
-                KindName::Rounds => explained::<Rounds>(heap, text.as_str())?,
+                KindName::Bytes => explained::<Bytes>(rt.alloc(), text.as_str())?,
+                KindName::Rounds => explained::<Rounds>(rt.alloc(), text.as_str())?,
             };
             rt.print(told.lines.as_str())?;
             if told.refused {
@@ -43,7 +49,7 @@ fn main(rt: LibcRuntime) -> Result<(), AnyError> {
                 Ok(())
             }
         }
-        Request::Unclear(expected) => {
+        Command::Unclear(expected) => {
             rt.eprintln(expected)?;
             Err(expected.into())
         }

@@ -18,12 +18,12 @@ use std::alloc::AllocError;
 use std::alloc::Global;
 
 // A kind whose classes can be shown to a person.
-pub trait Shown: Kind {
+pub(crate) trait Shown: Kind {
     // The symbols that a class admits, with a blank before each.
     fn show(heap: Global, class: Self::Class, out: &mut String) -> Result<(), AllocError>;
 }
 
-pub impl Shown for Bytes as BytesShown {
+pub(crate) impl Shown for Bytes as BytesShown {
     // Bytes as runs, each by its first and last byte.
     fn show(heap: Global, class: ByteClass, out: &mut String) -> Result<(), AllocError> {
         for first in 0..=255u8 {
@@ -69,7 +69,7 @@ fn show_byte(heap: Global, byte: u8, out: &mut String) -> Result<(), AllocError>
     }
 }
 
-pub impl Shown for Rounds as RoundsShown {
+pub(crate) impl Shown for Rounds as RoundsShown {
     // Rounds as units, in the order of their numbers.
     fn show(_heap: Global, class: RoundClass, out: &mut String) -> Result<(), AllocError> {
         for number in 0..9 {

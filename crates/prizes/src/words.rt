@@ -1,7 +1,7 @@
 use kinds::Refusal;
 
 // What is wrong, in a sentence.
-pub fn sentence(refusal: Refusal) -> &'static str {
+pub(crate) fn sentence(refusal: Refusal) -> &'static str {
     match refusal {
         Refusal::TextLength => "a pattern has 1 to 1,024 bytes",
         Refusal::MemoryTooShort => "the memory lent is too short",

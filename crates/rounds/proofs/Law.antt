@@ -1,11 +1,10 @@
 use mathlib.Core.Path.{_≡_, sym, _∙_}
-use mathlib.Core.List.{List, [], _∷_}
+use mathlib.Core.List.{List}
 use Prim.Native.Nat.{ℕ, _≤_, _<_}
 use native.Mathlib.Omega.{arith}
 use lib.ListN.{length, getD}
 use Rattle.kinds.specs.declared.Refusal.{Refusal}
 use Rattle.kinds.specs.declared.Refusal.the-variants.{NoAtom, UnfinishedSet, EmptySet}
-use Rattle.kinds.specs.Refusals.{numberOf}
 use Rattle.kinds.specs.Atoms.{Operator, Within, noAtom}
 use Rattle.kinds.proofs.Language as language
 use Rattle.kinds.proofs.Language.{leads-shorter, Inside, at-start}

@@ -3,7 +3,6 @@ ghost use mathlib.Core.Bool.{not, _||_};
 ghost use Prim.Native.Nat.{ℕ, _<_};
 ghost use Rattle.rounds.specs.Symbols.{roundNumber, inUnit};
 ghost use Rattle.rounds.specs.Class.{hasRound, withRound, withUnit, others, emptyClass, fullClass};
-use crate::symbol::Outcome;
 use crate::symbol::Round;
 use crate::symbol::RoundUnit;
 use crate::symbol::Side;

@@ -1,15 +1,14 @@
-use mathlib.Core.Path.{_≡_, refl, sym, _∙_, ap, subst}
+use mathlib.Core.Path.{_≡_, refl, sym, _∙_, ap}
 use mathlib.Core.Bool.{Bool, true, false, cond, not, _&&_, _||_}
 use mathlib.Core.Logic.{_⊎_, inl, inr, _↔_}
 use Prim.Native.Nat.{ℕ, zero, suc, _+_, _-_, _*_, _/_, _%_, _^_, _≤_, _<_, max, min}
 use native.Mathlib.Omega.{arith}
-use native.Mathlib.Nat.{add-zero, pow-suc, div-eq-of-lt, zero-div, mul-comm}
-use native.Mathlib.Decide.{decLt}
-use lib.Dec.{eqb, ltb}
+use native.Mathlib.Nat.{add-zero, pow-suc, div-eq-of-lt, zero-div}
+use lib.Dec.{eqb}
 use lib.Bits.{bitOr, bitAnd, or-step, or-shr, and-step, and-shr}
 use lib.Pow.{pow-lt, pow-add, pow-pos, shl-shr, shr-shr, field, mod-mod-pow, split, high, low}
 use lib.Count.{ones, onesIn, ones-cat}
-use Rattle.std.proofs.shelf.Tests.{eqb-true, eqb-false, eq-eqb, ne-eqb, cases-eq, cases-lt, cases-order}
+use Rattle.std.proofs.shelf.Tests.{eqb-true, eq-eqb, ne-eqb, cases-eq, cases-lt, cases-order}
 use Rattle.std.proofs.shelf.Ways.{tells}
 use Rattle.std.proofs.shelf.Bits.{mod-below, div-below}
 use Rattle.sets.specs.Sets.{bit, Member, member, gathered, members}

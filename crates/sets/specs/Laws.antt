@@ -1,11 +1,11 @@
 use mathlib.Core.Path.{_≡_}
-use mathlib.Core.Bool.{Bool, true, not, _||_}
+use mathlib.Core.Bool.{Bool, not, _||_}
 use mathlib.Core.Logic.{_⊎_, _↔_}
 use Prim.Native.Nat.{ℕ, _-_, _^_, _<_}
 use lib.Dec.{eqb}
 use lib.Bits.{bitAnd, bitOr}
 use lib.Count.{ones}
-use Rattle.sets.specs.Sets.{bit, Member, member, gathered, members}
+use Rattle.sets.specs.Sets.{Member, member, gathered, members}
 
 -- What numbers are as sets.
 pub record SetLaws : Type 0 where

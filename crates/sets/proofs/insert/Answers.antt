@@ -1,5 +1,5 @@
-use mathlib.Core.Path.{_≡_, sym, _∙_, ap}
-use Prim.Native.Nat.{ℕ, _*_, _%_, _^_}
+use mathlib.Core.Path.{_≡_, _∙_, ap}
+use Prim.Native.Nat.{_*_, _%_, _^_}
 use lib.Bits.{bitOr}
 use Rattle.std.proofs.shelf.Tests.{cond-below}
 use Rattle.std.proofs.shelf.Bits.{one-shl}

@@ -3,7 +3,7 @@ use std::io;
 
 // What the words behind the program's name ask for.
 #[derive(Drop)]
-pub enum Request {
+pub(crate) enum Command {
     Usage,
     Pattern(KindName, String),
     // nothing that is known: what was expected
@@ -11,29 +11,29 @@ pub enum Request {
 }
 
 #[derive(Clone, Copy)]
-pub enum KindName {
+pub(crate) enum KindName {
     Bytes,
     Rounds,
 }
 
-// Reads the request from the program's arguments.
-pub fn read_request(rt: &LibcRuntime) -> io::Result<Request> {
+// Reads the command from the program's arguments.
+pub(crate) fn read_command(rt: &LibcRuntime) -> io::Result<Command> {
     let mut words = env::args(rt)?;
     let _name = words.next();
-    let Some(command) = words.next() else {
-        return Ok(Request::Usage);
+    let Some(name) = words.next() else {
+        return Ok(Command::Usage);
     };
-    if command.as_str() != "pattern" {
-        return Ok(Request::Unclear(
+    if name.as_str() != "pattern" {
+        return Ok(Command::Unclear(
             "prizes: the command is expected to be `pattern`; without arguments, prizes explains itself",
         ));
     }
     let (Some(kind), Some(text), None) = (words.next(), words.next(), words.next()) else {
-        return Ok(Request::Unclear("prizes: expected `prizes pattern KIND TEXT`"));
+        return Ok(Command::Unclear("prizes: expected `prizes pattern KIND TEXT`"));
     };
     match kind_named(kind.as_str()) {
-        Some(kind) => Ok(Request::Pattern(kind, text)),
-        None => Ok(Request::Unclear("prizes: the kind is expected to be `bytes` or `rounds`")),
+        Some(kind) => Ok(Command::Pattern(kind, text)),
+        None => Ok(Command::Unclear("prizes: the kind is expected to be `bytes` or `rounds`")),
     }
 }
 
