@@ -33,6 +33,7 @@ pub record Item : Type 0 where
   pub first : ℕ
   pub last : ℕ
 
+-- `Items text items rest`: the text begins with these items and goes on with the rest.
 pub data Items : List ℕ → List Item → List ℕ → Type 0 where
   none : {rest : List ℕ} → Items rest [] rest
   single : {text after rest : List ℕ} {b : ℕ} {items : List Item} → Spelled text b after → (Ranges after → ⊥)

@@ -1,7 +1,7 @@
 // What the library turns down, and what it asks of a kind of symbol.
-// `Refusal` names every case in which a call of the library is turned down; `Refused` adds the
-// place in the pattern's text where the fault was decided. `Kind` is what the reader, the steppers
-// and the scan know of symbols: nothing above this crate knows a kind's letters.
+// `Refusal` names every case in which a call of the library is turned down; `Refused` adds a place in
+// the pattern's text. `Kind` is what the reader, the steppers and the scan know of symbols: only a
+// kind's own crate knows its letters.
 ghost use mathlib.Core.Path.{_≡_};
 ghost use mathlib.Core.Bool.{Bool, true, false, cond};
 ghost use mathlib.Core.List.{List};
@@ -16,7 +16,8 @@ ghost use Rattle.kinds.specs.Atoms.{Within, Operator, isOperator, noAtom};
 ghost use Rattle.kinds.specs.declared.Atom.{Atom as AtomOf};
 ghost use Rattle.kinds.specs.declared.Refused.{Refused as RefusedAt};
 
-// Every case in which a call is turned down.
+// Every case in which a call is turned down; docs/REFUSALS.md says when each is given, at which place,
+// and what it leaves.
 #[derive(Clone, Copy, PartialEq, Eq, Debug)]
 pub enum Refusal {
     TextLength,
@@ -130,23 +131,28 @@ pub trait Kind: Sized {
 
     law operators: { (text : List ℕ) (i : ℕ) → i < length text → Operator (getD text i 0) → reading text i ≡ noAtom i };
 
+    // How many symbols there are.
     fn symbols() -> usize
         ensures { λ r. ⌜ r ≡ count ⌝ };
 
+    // The number of a symbol, which is below that count.
     fn number_of(s: Self::Symbol) -> usize
         ensures value { λ r. ⌜ r ≡ number s ⌝ }
         ensures below { λ r. ⌜ r < count ⌝ };
 
-    // Nothing from the count up.
+    // The symbol of a number; there is none from the count up.
     fn symbol_of(n: usize) -> Option<Self::Symbol>
         ensures { λ r. ⌜ r ≡ cond (ltb n count) (Some (symbol n)) None ⌝ };
 
+    // The class that admits nothing.
     fn cleared_class() -> Self::Class
         ensures { λ r. ⌜ r ≡ cleared ⌝ };
 
+    // Whether a class admits a symbol.
     fn admitted(c: Self::Class, s: Self::Symbol) -> bool
         ensures { λ r. ⌜ r ≡ admits c s ⌝ };
 
+    // The atom at a place of a text, or why there is none.
     fn read_atom(text: &[u8], place: usize) -> Result<Atom<Self::Class>, Refused>
         ensures read { λ r. ⌜ r ≡ reading (now (text .entry)) place ⌝ };
 }

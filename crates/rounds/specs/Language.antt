@@ -49,6 +49,7 @@ pub data Spelled : List ℕ → RoundUnit → List ℕ → Type 0 where
   whole : {b : ℕ} {outcome : Outcome} {rest : List ℕ} → Letter b outcome → NoNarrowing rest
       → Spelled (b ∷ rest) (Whole outcome) rest
 
+-- `Units text units rest`: the text begins with these units and goes on with the rest.
 pub data Units : List ℕ → List RoundUnit → List ℕ → Type 0 where
   none : {rest : List ℕ} → Units rest [] rest
   more : {text after rest : List ℕ} {unit : RoundUnit} {units : List RoundUnit} → Spelled text unit after
