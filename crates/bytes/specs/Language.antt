@@ -104,3 +104,7 @@ pub record Exact (shape : Shape) (c : ByteClass) : Type 0 where
 -- A reading is exactly what the language of bytes says.
 abbrev pub ReadAsWritten : List ℕ → ℕ → Result (Atom ByteClass) Refused → Type 0
 ReadAsWritten text i r = language.ReadAsWritten Written Faulty Exact text i r
+
+-- No other answer is what the language of bytes says.
+abbrev pub OnlyReading : List ℕ → ℕ → Result (Atom ByteClass) Refused → Type 0
+OnlyReading text i r = language.OnlyReading Written Faulty Exact text i r

@@ -35,7 +35,7 @@ impl ByteClass {
         contains(self.words[at / 64], at % 64)
     }
 
-    // The class with the bytes from first to last added, both included.
+    // The class with the bytes from first to last added, both included; none if last comes before first.
     pub fn with_range(self, first: u8, last: u8) -> ByteClass
         ensures value { λ r. ⌜ r ≡ ranged self first last ⌝ }
         ensures members { λ r. ⌜ ((b : ℕ) → b < 256 → hasByte r b ≡ (between first last b || hasByte self b)) ⌝ }

@@ -3,7 +3,7 @@ ghost use Prim.Native.Nat.{_+_, _<_};
 ghost use lib.ListN.{length, drop};
 ghost use Rattle.bytes.specs.Class.{hasByte, emptyClass};
 ghost use Rattle.bytes.specs.Reading.{byteReading, escapeFrom};
-ghost use Rattle.bytes.specs.Language.{ReadAsWritten};
+ghost use Rattle.bytes.specs.Language.{ReadAsWritten, OnlyReading};
 use crate::class::ByteClass;
 use crate::set::read_set;
 use kinds::Atom;
@@ -53,9 +53,11 @@ pub impl Kind for Bytes as BytesKind {
         c.has(s)
     }
 
+    // The answer is exactly what the language says, and no other answer is.
     fn read_atom(text: &[u8], place: usize) -> Result<Atom<ByteClass>, Refused>
         ensures read { λ r. ⌜ r ≡ byteReading (now (text .entry)) place ⌝ }
         ensures language { λ r. ⌜ ReadAsWritten (now (text .entry)) place r ⌝ }
+        ensures alone { λ r. ⌜ OnlyReading (now (text .entry)) place r ⌝ }
     {
         read_here(text, place)
     }

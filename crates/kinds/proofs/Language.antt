@@ -1,4 +1,4 @@
-use mathlib.Core.Path.{_≡_, sym, _∙_, ap, subst}
+use mathlib.Core.Path.{_≡_, refl, sym, _∙_, ap, subst}
 use mathlib.Core.Bool.{Bool}
 use mathlib.Core.List.{List, _∷_}
 use mathlib.Core.Logic.{_⊎_, inl, inr}
@@ -13,7 +13,7 @@ use Rattle.kinds.specs.declared.Refused.{Refused}
 use Rattle.kinds.specs.declared.Refusal.{Refusal}
 use Rattle.kinds.specs.Refusals.{numberOf}
 use Rattle.kinds.specs.Atoms.{refusedAt, Within}
-use Rattle.kinds.specs.Language.{Leads, caret, straight, AtomAt, FaultAt, ReadAsWritten}
+use Rattle.kinds.specs.Language.{Leads, caret, straight, AtomAt, FaultAt, ReadAsWritten, OnlyReading}
 
 pub leads-shorter : {text rest : List ℕ} {negated : Bool} → Leads text negated rest → length rest ≤ length text
 leads-shorter caret = omega arith
@@ -28,6 +28,14 @@ same-refused : (f : Refused) (place : ℕ) → f .place ≡ place → f ≡ reco
 same-refused f place e =
     let whole : _≡_ {A = Refused} (record { refusal = f .refusal; place = f .place }) (record { refusal = f .refusal; place = place }) = cc in
     whole
+
+-- A language has one answer at every place: two readings that are both what it says are equal.
+module _ {Shape C : Type 0} (Written : List ℕ → Shape → List ℕ → Type 0) (Faulty : List ℕ → Refusal → List ℕ → Type 0)
+    (Exact : Shape → C → Type 0) where
+  pub only-reading : (text : List ℕ) (i : ℕ) (r : Result (Atom C) Refused) → ReadAsWritten Written Faulty Exact text i r
+      → OnlyReading Written Faulty Exact text i r
+  only-reading text i r w (Ok a) v = sym (w .accepted a .1 (v .accepted a .0 refl))
+  only-reading text i r w (Err f) v = sym (w .refused f .1 (v .refused f .0 refl))
 
 -- A fault is one of the five of atoms, and its place lies in the text.
 pub record Inside (text : List ℕ) (why : Refusal) (here : List ℕ) : Type 0 where

@@ -47,3 +47,7 @@ module _ {Shape C : Type 0} (Written : List ℕ → Shape → List ℕ → Type 
   pub record ReadAsWritten (text : List ℕ) (i : ℕ) (r : Result (Atom C) Refused) : Type 0 where
     pub accepted : (a : Atom C) → (r ≡ Ok a) ↔ AtomAt text i a
     pub refused : (f : Refused) → (r ≡ Err f) ↔ FaultAt text i f
+
+  -- No other answer is what the language says.
+  abbrev pub OnlyReading : List ℕ → ℕ → Result (Atom C) Refused → Type 0
+  OnlyReading text i r = (s : Result (Atom C) Refused) → ReadAsWritten text i s → s ≡ r

@@ -29,7 +29,7 @@ use Rattle.rounds.specs.declared.set.SetState.the-variants.{Start, Between, Le
 use Rattle.rounds.specs.declared.set.Turn.the-variants.{NoUnitHere}
 use Rattle.rounds.specs.Symbols.{inUnit}
 use Rattle.rounds.specs.Class.{hasRound, withUnit, others, emptyClass, fullClass, Nine}
-use Rattle.rounds.specs.Reading.{turnOf, finished, afterTurn, runSet, setFrom, unitAtom, unitFrom, atomFrom}
+use Rattle.rounds.specs.Reading.{turnOf, wholeClass, afterTurn, runSet, setFrom, unitAtom, unitFrom, atomFrom}
 use Rattle.rounds.specs.Language.{Letter, win, draw, loss, Narrowing, white, black, unplayed, NoLetter, NoNarrowing, Spelled, narrowed, whole, Units, none, more, Shape, only, inUnits, admittedBy, setShape, Written, dot, unit, set, Faulty, ended, no-atom, no-unit, cut-set, no-units, Exact}
 use Rattle.rounds.proofs.Classes.{classOf-nine, classOf-has}
 use Rattle.rounds.proofs.Runs.{set-straight, atom-none}
@@ -58,15 +58,15 @@ empty-has n = let z = bit-none n in ne-eqb (bit 0 n) 1 (λ e. omega arith)
 from-empty : (us : List RoundUnit) (n : ℕ) → n < 9 → hasRound (withUnits emptyClass us) n ≡ inUnits us n
 from-empty us n h = units-has us emptyClass n h ∙ ap (λ t. inUnits us n || t) (empty-has n) ∙ or-false (inUnits us n)
 
-finished-nine : (negated : Bool) (us : List RoundUnit) → Nine (finished negated (withUnits emptyClass us))
-finished-nine true us = classOf-nine (λ n. not (hasRound (withUnits emptyClass us) n))
-finished-nine false us = units-nine us emptyClass (omega arith)
+whole-set-nine : (negated : Bool) (us : List RoundUnit) → Nine (wholeClass negated (withUnits emptyClass us))
+whole-set-nine true us = classOf-nine (λ n. not (hasRound (withUnits emptyClass us) n))
+whole-set-nine false us = units-nine us emptyClass (omega arith)
 
-finished-has : (negated : Bool) (us : List RoundUnit) (n : ℕ) → n < 9
-    → hasRound (finished negated (withUnits emptyClass us)) n ≡ admittedBy (setShape negated us) n
-finished-has true us n h =
+whole-set-has : (negated : Bool) (us : List RoundUnit) (n : ℕ) → n < 9
+    → hasRound (wholeClass negated (withUnits emptyClass us)) n ≡ admittedBy (setShape negated us) n
+whole-set-has true us n h =
     classOf-has (λ m. not (hasRound (withUnits emptyClass us) m)) n h ∙ ap not (from-empty us n h)
-finished-has false us n h = from-empty us n h
+whole-set-has false us n h = from-empty us n h
 
 -- A byte that is none of the letters.
 not-white : {b : ℕ} → ((s : Side) → Narrowing b s → ⊥) → b ≡ 119 → ⊥
@@ -158,33 +158,30 @@ module _ (negated : Bool) (bracket : ℕ) where
         same-run = letter-run l rest place state c f ∙ settled-run rest ne (place + 1) o c;
       }
 
+  and-then : {t mid rest : List ℕ} {place : ℕ} {state : SetState} {c d e : RoundClass} (first : Reaches t place state c mid d)
+      → Reaches mid (first .behind) Between d rest e → Reaches t place state c rest e
+  and-then first next =
+      record {
+        behind = next .behind;
+        onward = omega arith;
+        length-kept = omega arith;
+        same-run = first .same-run ∙ next .same-run;
+      }
+
   units-reach : {t rest : List ℕ} {us : List RoundUnit} → Units t us rest → (place : ℕ) (c : RoundClass)
       → Reaches t place Between c rest (withUnits c us)
   units-reach none place c = record { behind = place; onward = omega arith; length-kept = refl; same-run = refl }
   units-reach (more {unit = u} s us) place c =
-      let first = unit-reaches s place Between c tt in
-      let others = units-reach us (first .behind) (withUnit c u) in
-      record {
-        behind = others .behind;
-        onward = omega arith;
-        length-kept = omega arith;
-        same-run = first .same-run ∙ others .same-run;
-      }
+      let first = unit-reaches s place Between c tt in and-then first (units-reach us (first .behind) (withUnit c u))
 
   start-reaches : {t rest : List ℕ} {u : RoundUnit} {us : List RoundUnit} → Units t (u ∷ us) rest → (place : ℕ)
       → Reaches t place Start emptyClass rest (withUnits emptyClass (u ∷ us))
   start-reaches (more {unit = u} s us) place =
       let first = unit-reaches s place Start emptyClass tt in
-      let others = units-reach us (first .behind) (withUnit emptyClass u) in
-      record {
-        behind = others .behind;
-        onward = omega arith;
-        length-kept = omega arith;
-        same-run = first .same-run ∙ others .same-run;
-      }
+      and-then first (units-reach us (first .behind) (withUnit emptyClass u))
 
   close-run : (rest : List ℕ) (place : ℕ) (c : RoundClass)
-      → run (93 ∷ rest) place Between c ≡ Ok (record { class = finished negated c; length = place + 1 - bracket })
+      → run (93 ∷ rest) place Between c ≡ Ok (record { class = wholeClass negated c; length = place + 1 - bracket })
   unfolding runSet
   close-run rest place c = refl
 
@@ -271,10 +268,10 @@ accepted t rest shape (set {negated = negated} {u = u} {units = units} l us) i =
     let lead = leads-to l i in
     let all = start-reaches negated i us (lead .from) in
     record {
-      atom = record { class = finished negated (withUnits emptyClass (u ∷ units)); length = all .behind + 1 - i };
+      atom = record { class = wholeClass negated (withUnits emptyClass (u ∷ units)); length = all .behind + 1 - i };
       is = lead .same-run ∙ all .same-run ∙ close-run negated i rest (all .behind) (withUnits emptyClass (u ∷ units));
       long = omega arith;
-      exact = record { nine = finished-nine negated (u ∷ units); members = finished-has negated (u ∷ units) };
+      exact = record { nine = whole-set-nine negated (u ∷ units); members = whole-set-has negated (u ∷ units) };
     }
 
 -- What is refused where there is a fault.

@@ -17,7 +17,7 @@ use Rattle.rounds.specs.declared.set.SetState.the-variants.{Start}
 use Rattle.rounds.specs.declared.set.Turn.{Turn}
 use Rattle.rounds.specs.Class.{others, emptyClass}
 use Rattle.kinds.specs.Language.{NoCaret}
-use Rattle.rounds.specs.Reading.{turnOf, finished, afterTurn, runSet, setFrom, unitAtom, unitFrom, atomFrom, roundReading}
+use Rattle.rounds.specs.Reading.{turnOf, wholeClass, afterTurn, runSet, setFrom, unitAtom, unitFrom, atomFrom, roundReading}
 
 -- What stands at a place of the text, and behind it, decides the definitions that take the rest of
 -- the text.
@@ -83,7 +83,7 @@ pub reading-none : (xs : List ℕ) (i : ℕ) → i < length xs → (getD xs i 0 
 reading-none xs i h dot set w d l = reading-at xs i (getD xs i 0) h refl ∙ atom-none (getD xs i 0) i (drop (i + 1) xs) dot set w d l
 
 -- The class of a whole set.
-pub finished-is : (negated : Bool) (units whole : RoundClass) → ((negated ≡ true) × (whole ≡ others units)) ⊎ ((negated ≡ false) × (whole ≡ units))
-    → whole ≡ finished negated units
-finished-is negated units whole (inl (e, f)) = rw e f
-finished-is negated units whole (inr (e, f)) = rw e f
+pub whole-set-is : (negated : Bool) (units whole : RoundClass) → ((negated ≡ true) × (whole ≡ others units)) ⊎ ((negated ≡ false) × (whole ≡ units))
+    → whole ≡ wholeClass negated units
+whole-set-is negated units whole (inl (e, f)) = rw e f
+whole-set-is negated units whole (inr (e, f)) = rw e f

@@ -110,3 +110,7 @@ pub record Exact (shape : Shape) (c : RoundClass) : Type 0 where
 -- A reading is exactly what the language of rounds says.
 abbrev pub ReadAsWritten : List ℕ → ℕ → Result (Atom RoundClass) Refused → Type 0
 ReadAsWritten text i r = language.ReadAsWritten Written Faulty Exact text i r
+
+-- No other answer is what the language of rounds says.
+abbrev pub OnlyReading : List ℕ → ℕ → Result (Atom RoundClass) Refused → Type 0
+OnlyReading text i r = language.OnlyReading Written Faulty Exact text i r

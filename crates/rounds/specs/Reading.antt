@@ -44,13 +44,13 @@ turnOf (Letter outcome) c b =
     (cond (eqb b 117) (On Between (withUnit c (Narrowed outcome Unplayed))) (beginUnit (withUnit c (Whole outcome)) b))))
 
 -- The class of a whole set.
-abbrev pub finished : Bool → RoundClass → RoundClass
-finished negated c = cond negated (others c) c
+abbrev pub wholeClass : Bool → RoundClass → RoundClass
+wholeClass negated c = cond negated (others c) c
 
 module _ (negated : Bool) (bracket : ℕ) where
   abbrev pub afterTurn : (SetState → RoundClass → Result (Atom RoundClass) Refused) → ℕ → Turn → Result (Atom RoundClass) Refused
   afterTurn go place (On state c) = go state c
-  afterTurn go place (Closed c) = Ok (record { class = finished negated c; length = place + 1 - bracket })
+  afterTurn go place (Closed c) = Ok (record { class = wholeClass negated c; length = place + 1 - bracket })
   afterTurn go place NoUnits = refusedAt EmptySet bracket
   afterTurn go place NoUnitHere = refusedAt NoAtom place
 

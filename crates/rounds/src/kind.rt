@@ -2,7 +2,7 @@ ghost use mathlib.Core.Path.{_≡_};
 ghost use Rattle.rounds.specs.Symbols.{roundNumber, roundOf};
 ghost use Rattle.rounds.specs.Class.{hasRound, emptyClass};
 ghost use Rattle.rounds.specs.Reading.{roundReading};
-ghost use Rattle.rounds.specs.Language.{ReadAsWritten};
+ghost use Rattle.rounds.specs.Language.{ReadAsWritten, OnlyReading};
 use crate::atom::atom_at;
 use crate::class::RoundClass;
 use crate::symbol::Round;
@@ -51,10 +51,11 @@ pub impl Kind for Rounds as RoundsKind {
         c.has(s.number())
     }
 
-    // Its second clause says that the reading is exactly what the language of rounds says.
+    // The answer is exactly what the language says, and no other answer is.
     fn read_atom(text: &[u8], place: usize) -> Result<Atom<RoundClass>, Refused>
         ensures read { λ r. ⌜ r ≡ roundReading (now (text .entry)) place ⌝ }
         ensures language { λ r. ⌜ ReadAsWritten (now (text .entry)) place r ⌝ }
+        ensures alone { λ r. ⌜ OnlyReading (now (text .entry)) place r ⌝ }
     {
         atom_at(text, place)
     }

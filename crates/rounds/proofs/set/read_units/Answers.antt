@@ -3,13 +3,13 @@ use mathlib.Core.Logic.{inl, inr}
 use Prim.Native.Nat.{_+_, _-_}
 use native.Mathlib.Omega.{arith}
 use Rattle.std.specs.declared.result.Result.the-variants.{Ok}
-use Rattle.rounds.proofs.Runs.{run-at, run-end, finished-is}
+use Rattle.rounds.proofs.Runs.{run-at, run-end, whole-set-is}
 use Rattle.rounds.proofs.set.read_units.Needs as need
 
 pub returns-in-Closed : need.returns-in-Closed
 returns-in-Closed c =
     ap (λ d. Ok (record { class = d; length = c .loop-at .at + 1 - c .args .bracket }))
-    (finished-is (c .args .negated) (c .in-Closed .units) (c .if-negated .class)
+    (whole-set-is (c .args .negated) (c .in-Closed .units) (c .if-negated .class)
     (elim (c .if-negated .came) [
       | need.then-negated w ↦ inl (w .if-negated .taken, w .class-is ∙ w .complement-class .ensures .value)
       | need.else-negated w ↦ inr (w .if-negated .left, w .class-is)

@@ -1,13 +1,16 @@
 use mathlib.Core.Path.{sym, subst}
-use Rattle.rounds.specs.Language.{ReadAsWritten}
+use Rattle.kinds.proofs.Language as language
+use Rattle.rounds.specs.Language.{Written, Faulty, Exact, ReadAsWritten}
 use Rattle.rounds.proofs.Law.{read-as-written}
 use Rattle.rounds.proofs.kind.RoundsKind.read_atom.Needs as need
 
 pub returns : need.returns
 returns c =
+    let text = c .args .text .now in
+    let place = c .args .place in
+    let told = subst (ReadAsWritten text place) (sym (c .atom-at .ensures)) (read-as-written text place) in
     record {
       read = c .atom-at .ensures;
-      language =
-          subst (λ r. ReadAsWritten (c .args .text .now) (c .args .place) r) (sym (c .atom-at .ensures))
-          (read-as-written (c .args .text .now) (c .args .place));
+      language = told;
+      alone = language.only-reading Written Faulty Exact text place (c .atom-at .result) told;
     }
