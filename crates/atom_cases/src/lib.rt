@@ -1,5 +1,7 @@
 // Atoms with what each kind must make of them, worked by hand from the rules of the language: a table
 // for each kind. The crate stands apart, so that the kinds themselves are proved only once.
+#![tactic(auto)]
+
 #[cfg(test)]
 mod tests {
     use byte_kind::Bytes;

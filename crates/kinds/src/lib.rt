@@ -2,6 +2,8 @@
 // `Refusal` names every case in which a call of the library is turned down; `Refused` adds a place in
 // the pattern's text. `Kind` is what the reader, the steppers and the scan know of symbols: only a
 // kind's own crate knows its letters.
+#![tactic(auto)]
+
 ghost use Rattle.std.specs.Prelude.{◌≡◌, ℕ, ◌<◌, ◌≤◌, Bool, true, false, ◌↔◌, List, length, if◌then◌else◌, Some, None, Result as Either, nat_lt, slice_index};
 ghost use Rattle.kinds.specs.Refusals.{number_of};
 ghost use Rattle.kinds.specs.Atoms.{Within, Operator, is_operator, no_atom_at};

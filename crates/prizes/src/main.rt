@@ -1,4 +1,6 @@
 // The program `prizes`. So far it explains a pattern's text atom by atom: `prizes pattern KIND TEXT`.
+#![tactic(auto)]
+
 mod command;
 mod explain;
 mod shown;

@@ -1,6 +1,8 @@
 // The reader: from a pattern's text to its node list, in memory that the caller lends. `read` says what
 // every record of that memory holds afterwards, on refusals too. The steppers' builders stand on the node
 // lists and classes that it leaves.
+#![tactic(auto)]
+
 ghost use Rattle.std.specs.Prelude.{◌≡◌};
 ghost use Rattle.reader.specs.Call.{ReadCall};
 ghost use Rattle.reader.specs.Writer.{limited_counts, used_by};

@@ -1,6 +1,8 @@
 // Patterns with what the reader must make of them, worked by hand from the rules of the language: the
 // node list and the classes, or the refusal, and what is left in the lent memory. The crate stands
 // apart, so that the reader itself is proved only once.
+#![tactic(auto)]
+
 #[cfg(test)]
 mod tests {
     use byte_kind::Bytes;

@@ -1,6 +1,8 @@
 // Numbers read as sets: bit x of a number says whether x belongs to the set.
 // Position sets, masks and classes of symbols are all such numbers, and every later crate
 // cites the laws that stand here.
+#![tactic(auto)]
+
 ghost use Rattle.std.specs.Prelude.{◌≡◌, ◌^◌, if◌then◌else◌, bit_or, nat_lt};
 ghost use Rattle.sets.specs.Sets.{member};
 ghost use Rattle.sets.specs.Laws.{SetLaws, Added};

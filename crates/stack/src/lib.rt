@@ -1,5 +1,7 @@
 // A stack over memory that the caller lends, good for every kind of element, and the clearing of lent
 // memory. The reader keeps its open groups in one.
+#![tactic(auto)]
+
 ghost use Rattle.std.specs.Prelude.{◌≡◌, ◌+◌, ◌-◌, ◌<◌, ◌≤◌, true, false, [], ◌∷◌, length, replicate, Some, None, nat_lt, slice_set};
 ghost use Rattle.stack.specs.Lent.{Same, held, cleared_from};
 

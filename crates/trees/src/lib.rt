@@ -1,5 +1,7 @@
 // Pattern trees as node lists: the records that the reader writes and that the builders of steppers
 // check and read. What a node list says is `listed` in specs/Listing.
+#![tactic(auto)]
+
 ghost use Rattle.std.specs.Prelude.{◌≡◌, ◌≤◌, Some, None};
 ghost use Rattle.trees.specs.Nodes.{kind_number, kind_of, node_of, cleared_node};
 
