@@ -1,4 +1,5 @@
-use Rattle.std.proofs.Common.{◌≡◌, ℕ, ◌+◌, ◌<◌, ◌≤◌, List, [], ◌∷◌, reverse, length, get_or, take, set, refl, ap, ◌∙◌, Bor}
+use Rattle.std.proofs.Common.{◌≡◌, ℕ, ◌+◌, ◌<◌, ◌≤◌, List, [], ◌∷◌, reverse, length, get_or, take, set, refl, ap, ◌∙◌}
+use Rattle.std.specs.Borrow.{MutBor}
 use Rattle.std.proofs.lemmas.List.{take_more, take_more_set, reverse-append, length-reverse, length-take-le}
 use Rattle.stack.specs.Lent.{Same, held}
 
@@ -20,5 +21,5 @@ unfolding held
 held_none xs = refl
 
 -- The same lent memory, by way of a third.
-pub same_then : {T : Type 0} (a b c : Bor (List T)) → Same a b → Same b c → Same a c
+pub same_then : {T : Type 0} (a b c : MutBor (List T)) → Same a b → Same b c → Same a c
 same_then a b c p q = record { at = p.at ∙ q.at; long = p.long ∙ q.long }

@@ -52,13 +52,13 @@ returns g c =
       classes = c.if-classes-lt-MAX-POSITIONS.false;
       groups = c.if-groups-lt-MAX-GROUPS.false;
     } in
-    let written = c.read-tokens-read.new.nodes in
-    let given = c.read-tokens-read.new.classes in
-    let used = c.used-by-used.ensures in
-    let long = c.read-tokens-read.ensures.lent.long ∙ c.over-stack.ensures.lent.long in
+    let written = c.read_tokens-read.new.nodes in
+    let given = c.read_tokens-read.new.classes in
+    let used = c.used_by-used.ensures in
+    let long = c.read_tokens-read.ensures.lent.long ∙ c.over-stack.ensures.lent.long in
     read_call g.K.Kind.reading g.K.Kind.cleared text nodes classes groups (λ i h. g.met.K.Kind.within text i h)
-    c.read-tokens-read.result c.limited-outcome.result written c.clear-from.new.slots given c.clear-from-2.new.slots _
-    (early_none text _ ready) (omega arith) (omega arith) c.read-tokens-read.ensures.read c.limited-outcome.ensures
-    (c.clear-from.ensures ∙ ap (λ b. cleared_from c.used-by-used.result.nodes b written) c.cleared-2.ensures ∙ ap (λ u. cleared_from u.nodes cleared_node written) used)
-    (c.clear-from-2.ensures ∙ ap (λ b. cleared_from c.used-by-used.result.positions b given) c.cleared-class.ensures ∙ ap (λ u. cleared_from u.positions g.K.Kind.cleared given) used)
+    c.read_tokens-read.result c.limited-outcome.result written c.clear_from.new.slots given c.clear_from-2.new.slots _
+    (early_none text _ ready) (omega arith) (omega arith) c.read_tokens-read.ensures.read c.limited-outcome.ensures
+    (c.clear_from.ensures ∙ ap (λ b. cleared_from c.used_by-used.result.nodes b written) c.cleared-2.ensures ∙ ap (λ u. cleared_from u.nodes cleared_node written) used)
+    (c.clear_from-2.ensures ∙ ap (λ b. cleared_from c.used_by-used.result.positions b given) c.cleared_class.ensures ∙ ap (λ u. cleared_from u.positions g.K.Kind.cleared given) used)
     (search rules)

@@ -12,17 +12,17 @@ returns-in-46 c =
     at_dot _ _ c.if-place-text.false _ c.in-46.is (c.complement.ensures.value ∙ ap others c.only.ensures)
 
 pub returns-in-92 : goal.returns-in-92
-returns-in-92 c = c.read-escape.ensures ∙ at_escape _ _ c.if-place-text.false c.in-92.is
+returns-in-92 c = c.read_escape.ensures ∙ at_escape _ _ c.if-place-text.false c.in-92.is
 
 pub returns-in-91 : goal.returns-in-91
-returns-in-91 c = c.read-set.ensures ∙ at_set _ _ c.if-place-text.false c.in-91.is
+returns-in-91 c = c.read_set.ensures ∙ at_set _ _ c.if-place-text.false c.in-91.is
 
-pub returns-in-default : goal.returns-in-default
-returns-in-default c =
+pub returns-in_default : goal.returns-in_default
+returns-in_default c =
     at_operator _ _ c.if-place-text.false (λ e. omega arith) (λ e. omega arith) (λ e. omega arith)
     (sym c.if-is-operator.ensures.value)
 
-pub returns-in-default-2 : goal.returns-in-default-2
-returns-in-default-2 c =
+pub returns-in_default-2 : goal.returns-in_default-2
+returns-in_default-2 c =
     at_ordinary _ _ c.if-place-text.false (λ e. omega arith) (λ e. omega arith) (λ e. omega arith) _
-    (sym c.if-is-operator.ensures.value) c.only-in-default-2.ensures
+    (sym c.if-is-operator.ensures.value) c.only-in_default-2.ensures

@@ -9,7 +9,7 @@ loop-place-preserved c =
 pub returns-in-Closed : goal.returns-in-Closed
 returns-in-Closed c =
     let e = run_at c.args.negated c.args.bracket _ _ _ _ _ c.loop-place-test.true c.in-Closed.ensures in
-    ap (λ d. Ok (record { class = d; length = c.loop-place.place + 1 - c.args.bracket })) c.whole-class-class.ensures ∙ sym e ∙ c.loop-place.invariant
+    ap (λ d. Ok (record { class = d; length = c.loop-place.place + 1 - c.args.bracket })) c.whole_class-class.ensures ∙ sym e ∙ c.loop-place.invariant
 
 pub returns-in-NoItems : goal.returns-in-NoItems
 returns-in-NoItems c =

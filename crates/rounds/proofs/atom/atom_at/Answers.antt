@@ -11,18 +11,18 @@ returns-in-46 c =
     ∙ sym (reading_at _ _ 46 c.if-place-text.false c.in-46.is)
 
 pub returns-in-91 : goal.returns-in-91
-returns-in-91 c = c.read-set.ensures ∙ sym (reading_at _ _ 91 c.if-place-text.false c.in-91.is)
+returns-in-91 c = c.read_set.ensures ∙ sym (reading_at _ _ 91 c.if-place-text.false c.in-91.is)
 
 pub returns-in-87 : goal.returns-in-87
-returns-in-87 c = ap (λ a. Ok a) c.read-unit.ensures ∙ sym (reading_at _ _ 87 c.if-place-text.false c.in-87.is)
+returns-in-87 c = ap (λ a. Ok a) c.read_unit.ensures ∙ sym (reading_at _ _ 87 c.if-place-text.false c.in-87.is)
 
 pub returns-in-68 : goal.returns-in-68
-returns-in-68 c = ap (λ a. Ok a) c.read-unit-in-68.ensures ∙ sym (reading_at _ _ 68 c.if-place-text.false c.in-68.is)
+returns-in-68 c = ap (λ a. Ok a) c.read_unit-in-68.ensures ∙ sym (reading_at _ _ 68 c.if-place-text.false c.in-68.is)
 
 pub returns-in-76 : goal.returns-in-76
-returns-in-76 c = ap (λ a. Ok a) c.read-unit-in-76.ensures ∙ sym (reading_at _ _ 76 c.if-place-text.false c.in-76.is)
+returns-in-76 c = ap (λ a. Ok a) c.read_unit-in-76.ensures ∙ sym (reading_at _ _ 76 c.if-place-text.false c.in-76.is)
 
-pub returns-in-default : goal.returns-in-default
-returns-in-default c =
-    c.refused-in-default.ensures ∙ sym (reading_none c.args.text.now c.args.place c.if-place-text.false (λ e. omega arith) (λ e. omega arith)
+pub returns-in_default : goal.returns-in_default
+returns-in_default c =
+    c.refused-in_default.ensures ∙ sym (reading_none c.args.text.now c.args.place c.if-place-text.false (λ e. omega arith) (λ e. omega arith)
     (λ e. omega arith) (λ e. omega arith) (λ e. omega arith))

@@ -8,9 +8,9 @@ pub returns : goal.returns
 returns c =
     let text = c.args.text.now in
     let place = c.args.place in
-    let told = subst (ReadAsWritten text place) (sym c.read-here.ensures) (read_as_written text place) in
+    let told = subst (ReadAsWritten text place) (sym c.read_here.ensures) (read_as_written text place) in
     record {
-      read = c.read-here.ensures;
+      read = c.read_here.ensures;
       language = told;
-      alone = language.only_reading Written Faulty Exact text place c.read-here.result told;
+      alone = language.only_reading Written Faulty Exact text place c.read_here.result told;
     }

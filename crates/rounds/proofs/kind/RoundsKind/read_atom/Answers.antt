@@ -8,9 +8,9 @@ pub returns : goal.returns
 returns c =
     let text = c.args.text.now in
     let place = c.args.place in
-    let told = subst (ReadAsWritten text place) (sym c.atom-at.ensures) (read_as_written text place) in
+    let told = subst (ReadAsWritten text place) (sym c.atom_at.ensures) (read_as_written text place) in
     record {
-      read = c.atom-at.ensures;
+      read = c.atom_at.ensures;
       language = told;
-      alone = language.only_reading Written Faulty Exact text place c.atom-at.result told;
+      alone = language.only_reading Written Faulty Exact text place c.atom_at.result told;
     }
