@@ -20,9 +20,9 @@ returns-in-91 c = c.read_set.ensures ∙ at_set _ _ c.if-place-text.false c.in-9
 pub returns-in_default : goal.returns-in_default
 returns-in_default c =
     at_operator _ _ c.if-place-text.false (λ e. omega arith) (λ e. omega arith) (λ e. omega arith)
-    (sym c.if-is-operator.ensures.value)
+    (sym c.if-is_operator.ensures.value)
 
 pub returns-in_default-2 : goal.returns-in_default-2
 returns-in_default-2 c =
     at_ordinary _ _ c.if-place-text.false (λ e. omega arith) (λ e. omega arith) (λ e. omega arith) _
-    (sym c.if-is-operator.ensures.value) c.only-in_default-2.ensures
+    (sym c.if-is_operator.ensures.value) c.only-in_default-2.ensures
