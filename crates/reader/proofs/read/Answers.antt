@@ -7,35 +7,35 @@ use Rattle.reader.specs.Law.{Ready}
 use Rattle.reader.specs.Call.{lent_of}
 use Rattle.reader.proofs.Laws.{WrongLength, ShortMemory, early_length, early_memory, early_none}
 use Rattle.reader.proofs.Called.{early_call, read_call}
-use Rattle.reader.proofs.read.Goals.{then-is-empty-via-then-is-empty, then-is-empty-via-else-is-empty+then-text-gt-MAX-TEXT, then-nodes-lt-MAX-NODES-via-then-nodes-lt-MAX-NODES, then-nodes-lt-MAX-NODES-via-else-nodes-lt-MAX-NODES+then-classes-lt-MAX-POSITIONS, then-nodes-lt-MAX-NODES-via-else-nodes-lt-MAX-NODES+else-classes-lt-MAX-POSITIONS+then-groups-lt-MAX-GROUPS}
+use Rattle.reader.proofs.read.Goals.{then-is_empty-via-then-is_empty, then-is_empty-via-else-is_empty+then-text-gt-MAX_TEXT, then-nodes-lt-MAX_NODES-via-then-nodes-lt-MAX_NODES, then-nodes-lt-MAX_NODES-via-else-nodes-lt-MAX_NODES+then-classes-lt-MAX_POSITIONS, then-nodes-lt-MAX_NODES-via-else-nodes-lt-MAX_NODES+else-classes-lt-MAX_POSITIONS+then-groups-lt-MAX_GROUPS}
 use Rattle.reader.proofs.read.Goals as goal
 
-pub returns-then-is-empty : goal.returns-then-is-empty
-returns-then-is-empty g c =
+pub returns-then-is_empty : goal.returns-then-is_empty
+returns-then-is_empty g c =
     let text = c.args.text.now in
     let wrong : WrongLength (length text) =
-    elim c.then-is-empty.branch [
-      | then-is-empty-via-then-is-empty w ↦ inl (eqb-true _ _ (sym c.is-empty.ensures ∙ w.if-is-empty.true))
-      | then-is-empty-via-else-is-empty+then-text-gt-MAX-TEXT w ↦ inr w.if-text-gt-MAX-TEXT.true
+    elim c.then-is_empty.branch [
+      | then-is_empty-via-then-is_empty w ↦ inl (eqb-true _ _ (sym c.is_empty.ensures ∙ w.if-is_empty.true))
+      | then-is_empty-via-else-is_empty+then-text-gt-MAX_TEXT w ↦ inr w.if-text-gt-MAX_TEXT.true
     ] in
     let l = lent_of c.args.nodes.now c.args.classes.now c.args.groups.now in
     early_call g.K.Kind.reading g.K.Kind.cleared text c.args.nodes.now c.args.classes.now c.args.groups.now
     (λ i h. g.met.K.Kind.within text i h) TextLength (early_length (length text) l wrong)
 
-pub returns-then-nodes-lt-MAX-NODES : goal.returns-then-nodes-lt-MAX-NODES
-returns-then-nodes-lt-MAX-NODES g c =
+pub returns-then-nodes-lt-MAX_NODES : goal.returns-then-nodes-lt-MAX_NODES
+returns-then-nodes-lt-MAX_NODES g c =
     let text = c.args.text.now in
     let l = lent_of c.args.nodes.now c.args.classes.now c.args.groups.now in
     let short : ShortMemory l =
-    elim c.then-nodes-lt-MAX-NODES.branch [
-      | then-nodes-lt-MAX-NODES-via-then-nodes-lt-MAX-NODES w ↦ inl w.if-nodes-lt-MAX-NODES.true
-      | then-nodes-lt-MAX-NODES-via-else-nodes-lt-MAX-NODES+then-classes-lt-MAX-POSITIONS w ↦ inr (inl w.if-classes-lt-MAX-POSITIONS.true)
-      | then-nodes-lt-MAX-NODES-via-else-nodes-lt-MAX-NODES+else-classes-lt-MAX-POSITIONS+then-groups-lt-MAX-GROUPS w ↦ inr (inr w.if-groups-lt-MAX-GROUPS.true)
+    elim c.then-nodes-lt-MAX_NODES.branch [
+      | then-nodes-lt-MAX_NODES-via-then-nodes-lt-MAX_NODES w ↦ inl w.if-nodes-lt-MAX_NODES.true
+      | then-nodes-lt-MAX_NODES-via-else-nodes-lt-MAX_NODES+then-classes-lt-MAX_POSITIONS w ↦ inr (inl w.if-classes-lt-MAX_POSITIONS.true)
+      | then-nodes-lt-MAX_NODES-via-else-nodes-lt-MAX_NODES+else-classes-lt-MAX_POSITIONS+then-groups-lt-MAX_GROUPS w ↦ inr (inr w.if-groups-lt-MAX_GROUPS.true)
     ] in
-    let some = eqb-false _ _ (sym c.is-empty.ensures ∙ c.if-is-empty.false) in
+    let some = eqb-false _ _ (sym c.is_empty.ensures ∙ c.if-is_empty.false) in
     early_call g.K.Kind.reading g.K.Kind.cleared text c.args.nodes.now c.args.classes.now c.args.groups.now
     (λ i h. g.met.K.Kind.within text i h) MemoryTooShort
-    (early_memory (length text) l (omega (arith, some)) c.if-text-gt-MAX-TEXT.false short)
+    (early_memory (length text) l (omega (arith, some)) c.if-text-gt-MAX_TEXT.false short)
 
 pub returns : goal.returns
 returns g c =
@@ -43,14 +43,14 @@ returns g c =
     let nodes = c.args.nodes.now in
     let classes = c.args.classes.now in
     let groups = c.args.groups.now in
-    let some = eqb-false _ _ (sym c.is-empty.ensures ∙ c.if-is-empty.false) in
+    let some = eqb-false _ _ (sym c.is_empty.ensures ∙ c.if-is_empty.false) in
     let ready : Ready text (lent_of nodes classes groups) =
     record {
       some_text = omega (arith, some);
-      short_text = c.if-text-gt-MAX-TEXT.false;
-      nodes = c.if-nodes-lt-MAX-NODES.false;
-      classes = c.if-classes-lt-MAX-POSITIONS.false;
-      groups = c.if-groups-lt-MAX-GROUPS.false;
+      short_text = c.if-text-gt-MAX_TEXT.false;
+      nodes = c.if-nodes-lt-MAX_NODES.false;
+      classes = c.if-classes-lt-MAX_POSITIONS.false;
+      groups = c.if-groups-lt-MAX_GROUPS.false;
     } in
     let written = c.read_tokens-read.new.nodes in
     let given = c.read_tokens-read.new.classes in

@@ -23,25 +23,25 @@ returns-in-Err g c =
     let e = reached_stuck g.K.Kind.reading c.args.text.now _ _ _ c.loop-place.invariant.1 c.loop-place-test.true (sym c.in-Err.ensures) in
     record { lent = c.loop-place.invariant.0; read = rw e refl }
 
-pub returns-in-Err-take-token : goal.returns-in-Err-take-token
-returns-in-Err-take-token g c =
+pub returns-in-Err-take_token : goal.returns-in-Err-take_token
+returns-in-Err-take_token g c =
     let i = c.loop-place.place in
     let h = c.loop-place-test.true in
     let e = sym c.in-Ok.ensures in
     let s = cut_inside g.K.Kind.reading c.args.text.now i c.in-Ok.cut h (g.met.K.Kind.within c.args.text.now i h) e in
-    let o = c.in-Err-take-token.ensures in
+    let o = c.in-Err-take_token.ensures in
     let f = reached_refused g.K.Kind.reading c.args.text.now i _ c.in-Ok.cut _ c.loop-place.invariant.1 h e s o.taken in
     record { lent = same_then _ _ _ o.lent c.loop-place.invariant.0; read = rw f refl }
 
 -- The token just cut lies within the text.
-inside : (g : given.Over) (c : goal.In-Ok-take-token g) → Sized g.K.Kind.reading c.args.text.now c.loop-place.place (Ok c.in-Ok.cut)
+inside : (g : given.Over) (c : goal.In-Ok-take_token g) → Sized g.K.Kind.reading c.args.text.now c.loop-place.place (Ok c.in-Ok.cut)
 inside g c =
     let i = c.loop-place.place in
     let h = c.loop-place-test.true in
     cut_inside g.K.Kind.reading c.args.text.now i c.in-Ok.cut h (g.met.K.Kind.within c.args.text.now i h) (sym c.in-Ok.ensures)
 
-pub overflow-add-place : goal.overflow-add-place
-overflow-add-place g c = let s = inside g c in omega (arith, s.1, c.requires.short)
+pub overflow_add-place : goal.overflow_add-place
+overflow_add-place g c = let s = inside g c in omega (arith, s.1, c.requires.short)
 
 pub loop-place-smaller : goal.loop-place-smaller
 loop-place-smaller g c =
@@ -52,7 +52,7 @@ loop-place-smaller g c =
 
 pub loop-place-preserved : goal.loop-place-preserved
 loop-place-preserved g c =
-    let o = c.in-Ok-take-token.ensures in (
+    let o = c.in-Ok-take_token.ensures in (
       same_then _ _ _ o.lent c.loop-place.invariant.0,
       reached_next g.K.Kind.reading c.args.text.now c.loop-place.place _ _ c.in-Ok.cut c.loop-place.invariant.1
           c.loop-place-test.true (sym c.in-Ok.ensures) (inside g c) o.taken o.grown,
