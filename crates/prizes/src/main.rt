@@ -49,7 +49,7 @@ fn main(rt: HostRuntime) -> anyhow::Result<()> {
         }
         Command::Unclear(expected) => {
             rt.eprintln(expected)?;
-            Err(expected.into())
+            Err(anyhow!(expected))
         }
     }
 }
