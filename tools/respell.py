@@ -21,7 +21,7 @@ TOKEN = re.compile(r"[A-Za-z_][A-Za-z0-9_'-]*")
 # What a lemma can be about: a dash behind one of these stays.
 HEADS = ("bit", "Member", "member", "members", "length", "gathered", "class_of", "word_of")
 # Names that the checker makes from the code.
-MADE = re.compile(r"(loop|returns|invariant|decreases|overflow|in|in_ok|in_err|then|else|if)-")
+MADE = re.compile(r"(loop|returns|invariant|decreases|overflow)[-_]")
 CLAUSE = re.compile(r"\s*(ghost|ensures|requires)\b")
 # Names that would fall together with another.
 OVERRIDES = {
@@ -30,6 +30,7 @@ OVERRIDES = {
     "joined-count": "count_of_joined",
     "noAtom": "no_atom_at",
     "side-of": "narrowing_of",
+    "Written-Read": "written_is_read",
     "tokens-at": "tokens_before",
     "tooLarge": "is_too_large",
 }
@@ -53,14 +54,21 @@ def read(path):
 
 
 def own_names():
-    """The names that .antt files declare and that are not in today's spelling."""
-    found = set()
+    """The names of this repository that are not in today's spelling: all that .antt files declare, and, outside
+    of the folders of functions, every dashed name that is not imported from a library of the kit."""
+    found, foreign = set(), set()
     for path in antt_files():
-        for line in read(path).splitlines():
+        code = "\n".join(l.split("--")[0] for l in read(path).splitlines())
+        for used, names in re.findall(r"^use ([\w.+]+)\.\{([^}]*)\}", code, re.M):
+            if not os.path.isdir("crates/" + used.split(".")[1]):
+                foreign |= set(TOKEN.findall(names))
+        for line in code.splitlines():
             m = re.match(r"\s*(?:(?:pub|abbrev|unfoldable)\s+)*([^\s:(){}]+)\s*:\s", line)
             if m and not MADE.match(m.group(1)) and TOKEN.fullmatch(m.group(1)):
                 found.add(m.group(1))
-    return {n for n in found if "-" in n or re.match(r"[a-z].*[A-Z]", n)}
+        if path.count("/") == 3:
+            found |= {n for n in TOKEN.findall(code) if "-" in n}
+    return {n for n in found - foreign if "-" in n or re.match(r"[a-z].*[A-Z]", n)}
 
 
 def renames():

@@ -61,7 +61,7 @@ module _ {Shape C : Type 0} (Written : List ℕ → Shape → List ℕ → Type 
 
   -- If both hold, and every text begins with an atom or has a fault, the reading is what the language says.
   module _ (one : (shape : Shape) (c d : C) → Exact shape c → Exact shape d → c ≡ d)
-      (Written-Read : (text rest : List ℕ) (shape : Shape) → Written text shape rest → (i : ℕ) → ReadOk text rest shape i)
+      (written_is_read : (text rest : List ℕ) (shape : Shape) → Written text shape rest → (i : ℕ) → ReadOk text rest shape i)
       (faulty_read : (text here : List ℕ) (why : Refusal) → Faulty text why here → (i : ℕ) → ReadErr text here why i)
       (outcome : (text : List ℕ) → Outcome text) where
     module _ (text : List ℕ) (i : ℕ) where
@@ -76,7 +76,7 @@ module _ {Shape C : Type 0} (Written : List ℕ → Shape → List ℕ → Type 
 
       atom_read : (a : Atom C) → Atoms a → read ≡ Ok a
       atom_read a w =
-          let o = Written-Read (drop i text) w.rest w.shape w.written i in
+          let o = written_is_read (drop i text) w.rest w.shape w.written i in
           let n : o.atom.length ≡ a.length = let l = o.long in let m = w.long in omega arith in
           let c = one w.shape o.atom.class a.class o.exact w.exact in
           o.is ∙ ap Ok (same_atom o.atom a c n)
@@ -96,7 +96,7 @@ module _ {Shape C : Type 0} (Written : List ℕ → Shape → List ℕ → Type 
         where
           go : Outcome (drop i text) → Told
           go (inl (shape, rest, w)) =
-              let o = Written-Read (drop i text) rest shape w i in
+              let o = written_is_read (drop i text) rest shape w i in
               inl (o.atom, record { shape = shape; rest = rest; written = w; long = o.long; exact = o.exact }, o.is)
           go (inr (why, here, w)) =
               let o = faulty_read (drop i text) here why w i in

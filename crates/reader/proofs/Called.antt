@@ -86,22 +86,22 @@ module _ {C : Type 0} (reading : List ℕ → ℕ → Result (Atom C) Refused) (
   ran = run 32 (tokens_from reading text text 0 0).0 (tokens_from reading text text 0 0).1 [] none wanted
 
   -- A call that reads.
-  pub read_call : (read r : Result Counts Refused) (written nodes-after : List Node) (given classes-after : List C) (groups-after : List Group)
+  pub read_call : (read r : Result Counts Refused) (written nodes_after : List Node) (given classes_after : List C) (groups_after : List Group)
       → early (length text) (lent_of nodes classes groups) ≡ none
       → length written ≡ length nodes → length given ≡ length classes
       → EndPictured ran read written given → r ≡ limited_counts (length text) read
-      → nodes-after ≡ cleared_from (used_by r).nodes cleared_node written
-      → classes-after ≡ cleared_from (used_by r).positions cleared given
-      → groups-after ≡ replicate (length groups) cleared_group
-      → ReadCall reading cleared text nodes classes groups r nodes-after classes-after groups-after
-  read_call read r written nodes-after given classes-after groups-after early-no node_room class_room h e ns cs gs =
+      → nodes_after ≡ cleared_from (used_by r).nodes cleared_node written
+      → classes_after ≡ cleared_from (used_by r).positions cleared given
+      → groups_after ≡ replicate (length groups) cleared_group
+      → ReadCall reading cleared text nodes classes groups r nodes_after classes_after groups_after
+  read_call read r written nodes_after given classes_after groups_after early_no node_room class_room h e ns cs gs =
       let s = settled cleared (length text) written nodes given classes node_room class_room ran read r h e in
       let whole : length groups ≡ length groups - 0 = omega arith in
       record {
-        result = rw early-no s.result;
-        nodes_hold = rw early-no (ns ∙ s.nodes_hold);
-        classes_hold = rw early-no (cs ∙ s.classes_hold);
-        groups_hold = rw early-no (gs ∙ ap (λ k. replicate k cleared_group) whole);
+        result = rw early_no s.result;
+        nodes_hold = rw early_no (ns ∙ s.nodes_hold);
+        classes_hold = rw early_no (cs ∙ s.classes_hold);
+        groups_hold = rw early_no (gs ∙ ap (λ k. replicate k cleared_group) whole);
         law = reads_patterns reading text (lent_of nodes classes groups) within;
         telling = listing_tells;
       }

@@ -11,7 +11,7 @@ use Rattle.reader.specs.Tokens.{Placed, Ending, text_ends, Tokens, tokens_from}
 use Rattle.reader.specs.Grammar.{Pattern}
 use Rattle.reader.specs.Machine.{wanted, run}
 use Rattle.reader.specs.Outcome.{Lent, early, limited, outcome_of, unless, outcome}
-use Rattle.reader.specs.Law.{Ready, Written, Refuses, text_length, short_memory, in-tokens, too_large, ReadsPatterns}
+use Rattle.reader.specs.Law.{Ready, Written, Refuses, text_length, short_memory, in_tokens, too_large, ReadsPatterns}
 use Rattle.reader.proofs.Sound.{sound, accepts_ended}
 use Rattle.reader.proofs.Complete.{Room, accepts}
 use Rattle.reader.proofs.Depth.{room_of, shallow_room, room_shallow, room_any}
@@ -110,7 +110,7 @@ module _ {C : Type 0} (reading : List ℕ → ℕ → Result (Atom C) Refused) (
   refused_in : {f : Refused} → Refuses reading text lent f → outcome reading text lent ≡ Err f
   refused_in (text_length h) = ap (λ z. unless z (outcome_of (length text) tokens)) (early_length (length text) lent h)
   refused_in (short_memory h k m) = ap (λ z. unless z (outcome_of (length text) tokens)) (early_memory (length text) lent h k m)
-  refused_in (in-tokens {f} ts e r d w) = when_ready r (Err f) (ran ts e d ∙ fault_in ts e f w)
+  refused_in (in_tokens {f} ts e r d w) = when_ready r (Err f) (ran ts e d ∙ fault_in ts e f w)
   refused_in (too_large t r w l) = when_ready r (Ok t) (run_written t w) ∙ limited_large (length text) t l
 
   -- Every call is one or the other, so the outcome tells which.
@@ -127,7 +127,7 @@ module _ {C : Type 0} (reading : List ℕ → ℕ → Result (Atom C) Refused) (
   read : Ready text lent → (o : Result (Tree C) Refused) → run 32 tokens.0 tokens.1 [] none wanted ≡ o → Verdict
   read r (Ok t) q = judged r t (written_run t q) (cases_lt (length (leaves t)) 64) (cases_lt (length (listing t)) 256)
   read r (Err f) q =
-      turns_down f (in-tokens tokens.0 tokens.1 r (cut_of_text reading text within) (fault_out tokens.0 tokens.1 f q))
+      turns_down f (in_tokens tokens.0 tokens.1 r (cut_of_text reading text within) (fault_out tokens.0 tokens.1 f q))
 
   verdict : Start text lent → Verdict
   verdict (wrong_length h) = turns_down (record { refusal = TextLength; place = 0 }) (text_length h)

@@ -146,8 +146,8 @@ module _ {C : Type 0} where
       let count = started_count st alts part in
       let sequence = started_link st alts part in
       let same = started_leaves st alts part in
-      let one-node = add-one (next_node outer) in
-      let one-leaf = length-append (leaves_of outer) (c ∷ []) in
+      let one_node = add-one (next_node outer) in
+      let one_leaf = length-append (leaves_of outer) (c ∷ []) in
       let after = atom_stored c outer _ classes (started_stored st alts part nodes classes s) in
       pictured st alts (holds (before part) (leaf c)) _ (cc) refl (rw (count, ← same) after)
 

@@ -49,11 +49,11 @@ module _ {C : Type 0} (reading : List ℕ → ℕ → Result (Atom C) Refused) (
 
   -- A call of the reader on this text, with this memory: what it returns and what the memory then holds,
   -- and what that means.
-  pub record ReadCall (r : Result Counts Refused) (nodes-after : List Node) (classes-after : List C) (groups-after : List Group)
+  pub record ReadCall (r : Result Counts Refused) (nodes_after : List Node) (classes_after : List C) (groups_after : List Group)
       : Type 0 where
     pub result : r ≡ counted found
-    pub nodes_hold : nodes-after ≡ holds_after (early (length text) (lent_of nodes classes groups)) cleared_node nodes (nodes_of found)
-    pub classes_hold : classes-after ≡ holds_after (early (length text) (lent_of nodes classes groups)) cleared classes (classes_of found)
-    pub groups_hold : groups-after ≡ holds_after (early (length text) (lent_of nodes classes groups)) cleared_group groups []
+    pub nodes_hold : nodes_after ≡ holds_after (early (length text) (lent_of nodes classes groups)) cleared_node nodes (nodes_of found)
+    pub classes_hold : classes_after ≡ holds_after (early (length text) (lent_of nodes classes groups)) cleared classes (classes_of found)
+    pub groups_hold : groups_after ≡ holds_after (early (length text) (lent_of nodes classes groups)) cleared_group groups []
     pub law : ReadsPatterns reading text (lent_of nodes classes groups) found
     pub telling : (s t : Tree C) → ListingTells s t

@@ -33,7 +33,7 @@ module _ {C : Type 0} (reading : List ℕ → ℕ → Result (Atom C) Refused) (
     text_length : (length text ≡ 0) ⊎ (1024 < length text) → Refuses lent (record { refusal = TextLength; place = 0 })
     short_memory : 1 ≤ length text → length text ≤ 1024 → (lent.nodes < 255) ⊎ ((lent.classes < 63) ⊎ (lent.groups < 32))
         → Refuses lent (record { refusal = MemoryTooShort; place = 0 })
-    in-tokens : {f : Refused} (ts : List (Placed C)) (e : Ending) → Ready text lent → Tokens reading text 0 ts e → Fault ts e f
+    in_tokens : {f : Refused} (ts : List (Placed C)) (e : Ending) → Ready text lent → Tokens reading text 0 ts e → Fault ts e f
         → Refuses lent f
     too_large : (t : Tree C) → Ready text lent → Written t → (63 < length (leaves t)) ⊎ (255 < length (listing t))
         → Refuses lent (record { refusal = PatternTooLarge; place = length text })
