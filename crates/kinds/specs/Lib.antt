@@ -1,3 +1,4 @@
 pub mod Refusals
 pub mod Atoms
 pub mod Language
+pub mod Sets

@@ -10,61 +10,88 @@ ghost use Rattle.kinds.specs.Atoms.{Within, Operator, is_operator, no_atom_at};
 ghost use Rattle.kinds.specs.declared.Atom.{Atom as AtomOf};
 ghost use Rattle.kinds.specs.declared.Refused.{Refused as RefusedAt};
 
+use std::error::Error;
+use std::fmt;
+
+mod set;
+
+pub use set::{SetMachine, read_set};
+
 // Every case in which a call is turned down; docs/REFUSALS.md says when each is given, at which place,
 // and what it leaves.
 #[derive(Clone, Copy, PartialEq, Eq, Debug)]
 pub enum Refusal {
-    TextLength,
-    MemoryTooShort,
-    NoAtom,
-    UnfinishedEscape,
-    UnfinishedSet,
-    BackwardRange,
-    EmptySet,
-    BaseWanted,
-    NoOpenGroup,
-    UnfinishedGroup,
-    TooManyGroups,
-    PatternTooLarge,
-    NotATree,
-    BadWidth,
-    TableTooShort,
-    NoMoreSlips,
-    NoMoreMarks,
-    NoSuchMark,
-    NoReportPlace,
-    SymbolLimit,
-    NoSlipOut,
+    TextLength = 1,
+    MemoryTooShort = 2,
+    NoAtom = 3,
+    UnfinishedEscape = 4,
+    UnfinishedSet = 5,
+    BackwardRange = 6,
+    EmptySet = 7,
+    BaseWanted = 8,
+    NoOpenGroup = 9,
+    UnfinishedGroup = 10,
+    TooManyGroups = 11,
+    PatternTooLarge = 12,
+    NotATree = 13,
+    BadWidth = 14,
+    TableTooShort = 15,
+    NoMoreSlips = 16,
+    NoMoreMarks = 17,
+    NoSuchMark = 18,
+    NoReportPlace = 19,
+    SymbolLimit = 20,
+    NoSlipOut = 21,
 }
 
 impl Refusal {
-    // The number under which the refusal is listed.
-    pub fn number(self) -> u8
-        ensures { result ≡ number_of self }
+    // The refusal at a place of the pattern's text.
+    pub fn at(self, place: usize) -> Refused
+        ensures { result ≡ record { refusal = self; place = place } }
     {
-        match self {
-            Refusal::TextLength => 1,
-            Refusal::MemoryTooShort => 2,
-            Refusal::NoAtom => 3,
-            Refusal::UnfinishedEscape => 4,
-            Refusal::UnfinishedSet => 5,
-            Refusal::BackwardRange => 6,
-            Refusal::EmptySet => 7,
-            Refusal::BaseWanted => 8,
-            Refusal::NoOpenGroup => 9,
-            Refusal::UnfinishedGroup => 10,
-            Refusal::TooManyGroups => 11,
-            Refusal::PatternTooLarge => 12,
-            Refusal::NotATree => 13,
-            Refusal::BadWidth => 14,
-            Refusal::TableTooShort => 15,
-            Refusal::NoMoreSlips => 16,
-            Refusal::NoMoreMarks => 17,
-            Refusal::NoSuchMark => 18,
-            Refusal::NoReportPlace => 19,
-            Refusal::SymbolLimit => 20,
-            Refusal::NoSlipOut => 21,
+        Refused {
+            refusal: self,
+            place,
         }
+    }
+}
+
+// The number under which a refusal is listed.
+impl From<Refusal> for u8 {
+    ghost from_gives = { λ refusal number. number ≡ number_of refusal };
+
+    fn from(refusal: Refusal) -> u8 {
+        refusal as u8
+    }
+}
+
+// What is wrong, in a sentence.
+impl fmt::Display for Refusal {
+    fn fmt<W: fmt::Write>(&self, f: &mut fmt::Formatter<W>) -> fmt::Result {
+        f.write_str(match self {
+            Refusal::TextLength => "a pattern has 1 to 1,024 bytes",
+            Refusal::MemoryTooShort => "the memory lent is too short",
+            Refusal::NoAtom => "nothing that can be matched begins with this byte",
+            Refusal::UnfinishedEscape => "the text ends here, and `\\` wants a byte after it",
+            Refusal::UnfinishedSet => "this set has no `]`",
+            Refusal::BackwardRange =>
+                "the range that begins here runs backward: its last byte comes before its first",
+            Refusal::EmptySet => "this set has nothing in it",
+            Refusal::BaseWanted => "a unit, a group or `()` is expected here",
+            Refusal::NoOpenGroup => "this `)` closes no group",
+            Refusal::UnfinishedGroup => "this group has no `)`",
+            Refusal::TooManyGroups => "32 groups are open here already",
+            Refusal::PatternTooLarge => "the pattern has more than 63 positions or 255 nodes",
+            Refusal::NotATree => "the node list is not the list of one tree",
+            Refusal::BadWidth => "a block has a width from 1 to 10",
+            Refusal::TableTooShort => "the memory for the table or the masks is too short",
+            Refusal::NoMoreSlips => "1,000,000 slips were issued",
+            Refusal::NoMoreMarks => "16 marks are held",
+            Refusal::NoSuchMark => "no such mark is held",
+            Refusal::NoReportPlace => "symbols remain and no report place is left",
+            Refusal::SymbolLimit => "symbols remain and 1,000,000,000 were taken",
+            Refusal::NoSlipOut => "no slip is out",
+        })
     }
 }
 
@@ -74,6 +101,15 @@ pub struct Refused {
     pub refusal: Refusal,
     pub place: usize,
 }
+
+impl fmt::Display for Refused {
+    fn fmt<W: fmt::Write>(&self, f: &mut fmt::Formatter<W>) -> fmt::Result {
+        let number = u8::from(self.refusal);
+        write!(f, "refused {number} at {}: {}", self.place, self.refusal)
+    }
+}
+
+impl Error for Refused {}
 
 // An atom as it was read: the class of symbols that it admits, and how many bytes spell it.
 #[derive(Clone, Copy, PartialEq, Eq, Debug)]

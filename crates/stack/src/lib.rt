@@ -2,8 +2,8 @@
 // memory. The reader keeps its open groups in one.
 #![tactic(auto)]
 
-ghost use Rattle.std.specs.Prelude.{◌≡◌, ◌+◌, ◌-◌, ◌<◌, ◌≤◌, true, false, [], ◌∷◌, length, replicate, Some, None, nat_lt, slice_set};
-ghost use Rattle.stack.specs.Lent.{Same, held, cleared_from};
+ghost use Rattle.std.specs.Prelude.{◌≡◌, ◌+◌, ◌-◌, ◌<◌, ◌≤◌, [], ◌∷◌, length, replicate, Some, None, Ok, Err, slice_set};
+ghost use Rattle.stack.specs.Lent.{Same, cleared_from};
 
 // The first `used` slots hold the stack, the last of them its top.
 #[derive(Drop)]
@@ -14,46 +14,45 @@ pub struct Stack<'a, T> {
 }
 
 impl<'a, T: Copy> Stack<'a, T> {
+    ghost use Rattle.stack.specs.Stacked.{lent, memory, count, stacked};
+
     // An empty stack over the lent slots; they are not touched.
     pub fn over(slots: &'a mut [T]) -> Self
-        ensures empty { result.used ≡ 0 }
-        ensures lent { Same result.slots slots.entry }
-        ensures untouched { result.slots.now ≡ slots.old }
+        ensures empty { count result ≡ 0 }
+        ensures lent { Same (lent result) slots.entry }
+        ensures untouched { memory result ≡ slots.old }
     {
         Stack { slots, used: 0 }
     }
 
     // How many elements the stack holds.
     pub fn len(&self) -> usize
-        ensures used { result ≡ self.now.used }
-        ensures held { result ≡ length (held self.now.slots.now self.now.used) }
+        ensures used { result ≡ count self.now }
+        ensures held { result ≡ length (stacked self.now) }
     {
         self.used
     }
 
-    // Puts an element on top, if a slot is left for it.
-    pub fn push(&mut self, item: T) -> bool
-        ensures lent { Same self.new.slots self.old.slots }
-        ensures room { result ≡ nat_lt self.old.used (length self.old.slots.now) }
-        ensures pushed { result ≡ true → held self.new.slots.now self.new.used ≡ item ∷ held self.old.slots.now self.old.used }
-        ensures written { result ≡ true → self.new.slots.now ≡ slice_set self.old.slots.now self.old.used item }
-        ensures count { result ≡ true → self.new.used ≡ self.old.used + 1 }
-        ensures full { result ≡ false → self.new ≡ self.old }
+    // Puts an element on top, if a slot is left for it; otherwise gives it back.
+    pub fn push(&mut self, item: T) -> Result<(), T>
+        ensures lent { Same (lent self.new) (lent self.old) }
+        ensures room { elim result [ Ok _ ↦ count self.old < length (memory self.old) | Err back ↦ (length (memory self.old) ≤ count self.old) × (back ≡ item) × (self.new ≡ self.old) ] }
+        ensures pushed { elim result [ Ok _ ↦ (stacked self.new ≡ item ∷ stacked self.old) × (memory self.new ≡ slice_set (memory self.old) (count self.old) item) × (count self.new ≡ count self.old + 1) | Err _ ↦ Unit {0} ] }
     {
         if self.used < self.slots.len() {
             self.slots[self.used] = item;
             self.used += 1;
-            true
+            Ok(())
         } else {
-            false
+            Err(item)
         }
     }
 
     // Takes the top element off; its slot keeps what it holds.
     pub fn pop(&mut self) -> Option<T>
-        ensures lent { Same self.new.slots self.old.slots }
-        ensures untouched { self.new.slots.now ≡ self.old.slots.now }
-        ensures popped { elim result [ None ↦ (self.old.used ≡ 0) × (held self.old.slots.now self.old.used ≡ []) × (self.new ≡ self.old) | Some x ↦ (self.new.used + 1 ≡ self.old.used) × (held self.old.slots.now self.old.used ≡ x ∷ held self.new.slots.now self.new.used) ] }
+        ensures lent { Same (lent self.new) (lent self.old) }
+        ensures untouched { memory self.new ≡ memory self.old }
+        ensures popped { elim result [ None ↦ (count self.old ≡ 0) × (stacked self.old ≡ []) × (self.new ≡ self.old) | Some x ↦ (count self.new + 1 ≡ count self.old) × (stacked self.old ≡ x ∷ stacked self.new) ] }
     {
         if self.used == 0 {
             None
@@ -65,12 +64,10 @@ impl<'a, T: Copy> Stack<'a, T> {
 
     // Gives the lent slots back cleared: all of them, not only those that were used.
     pub fn clear(self, blank: T)
-        ensures { self.exit.0.now ≡ replicate (length self.entry.slots.now) blank }
+        ensures { self.exit.0.now ≡ replicate (length (memory self.entry)) blank }
     {
         let Stack { slots, .. } = self;
-        for slot in slots.iter_mut() {
-            *slot = blank;
-        }
+        clear_from(slots, 0, blank);
     }
 }
 
@@ -78,7 +75,8 @@ impl<'a, T: Copy> Stack<'a, T> {
 pub fn clear_from<T: Copy>(slots: &mut [T], from: usize, blank: T)
     ensures { slots.new ≡ cleared_from from blank slots.old }
 {
-    for place in from..slots.len() {
-        slots[place] = blank;
+    let start = from.min(slots.len());
+    for slot in &mut slots[start..] {
+        *slot = blank;
     }
 }

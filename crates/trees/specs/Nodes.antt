@@ -1,8 +1,9 @@
-use Rattle.std.specs.Prelude.{ℕ, cond, Some, None, Option, ◌==◌}
+use Rattle.std.specs.Prelude.{◌≡◌, ℕ, ◌≤◌, cond, Some, None, Option, Result, MatchResult, ◌==◌}
 use Rattle.trees.specs.declared.Joiner.TheVariants.{Sequence, Choice}
 use Rattle.trees.specs.declared.Postfix.TheVariants.{Star, Plus, Optional}
 use Rattle.trees.specs.declared.NodeKind.{NodeKind}
 use Rattle.trees.specs.declared.NodeKind.TheVariants.{Empty, Position, Join, Repeat}
+use Rattle.trees.specs.declared.UnknownKind.{UnknownKind}
 use Rattle.trees.specs.declared.Node.{Node}
 
 -- The number of each kind of node.
@@ -25,6 +26,12 @@ kind_of n =
     (cond (n == 4) (Some (Repeat Star))
     (cond (n == 5) (Some (Repeat Plus))
     (cond (n == 6) (Some (Repeat Optional)) None))))))
+
+-- What turning a number into a kind gives: the kind with that number, or the number back if there is none.
+abbrev pub IsKindOf : ℕ → Result NodeKind UnknownKind → Type 0
+IsKindOf n r =
+    MatchResult r (λ kind. (kind_of n ≡ Some kind) × (kind_number kind ≡ n))
+    (λ e. (kind_of n ≡ None) × (7 ≤ n) × (e.0 ≡ n))
 
 abbrev pub node_of : NodeKind → ℕ → ℕ → Node
 node_of kind a b = record { kind = kind_number kind; a = a; b = b }

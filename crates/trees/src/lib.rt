@@ -2,8 +2,8 @@
 // check and read. What a node list says is `listed` in specs/Listing.
 #![tactic(auto)]
 
-ghost use Rattle.std.specs.Prelude.{◌≡◌, ◌≤◌, Some, None};
-ghost use Rattle.trees.specs.Nodes.{kind_number, kind_of, node_of, cleared_node};
+ghost use Rattle.std.specs.Prelude.{◌≡◌};
+ghost use Rattle.trees.specs.Nodes.{kind_number, IsKindOf, node_of, cleared_node};
 
 // What joins two trees: one after the other, or either.
 #[derive(Clone, Copy, PartialEq, Eq, Debug)]
@@ -29,12 +29,12 @@ pub enum NodeKind {
     Repeat(Postfix),
 }
 
-impl NodeKind {
-    // The number that stands for the kind in a node record.
-    pub fn number(self) -> u8
-        ensures { result ≡ kind_number self }
-    {
-        match self {
+// The number that stands for a kind in a node record.
+impl From<NodeKind> for u8 {
+    ghost from_gives = { λ kind number. number ≡ kind_number kind };
+
+    fn from(kind: NodeKind) -> u8 {
+        match kind {
             NodeKind::Empty => 0,
             NodeKind::Position => 1,
             NodeKind::Join(Joiner::Sequence) => 2,
@@ -44,21 +44,27 @@ impl NodeKind {
             NodeKind::Repeat(Postfix::Optional) => 6,
         }
     }
+}
 
-    // The kind that a number stands for; from 7 up there is none.
-    pub fn of_number(number: u8) -> Option<NodeKind>
-        ensures value { result ≡ kind_of number }
-        ensures back { elim result [ Some kind ↦ kind_number kind ≡ number | None ↦ 7 ≤ number ] }
-    {
+// A number that stands for no kind: it is 7 or more.
+#[derive(Clone, Copy, PartialEq, Eq, Debug)]
+pub struct UnknownKind(pub u8);
+
+impl TryFrom<u8> for NodeKind {
+    type Error = UnknownKind;
+
+    ghost try_from_gives = { IsKindOf };
+
+    fn try_from(number: u8) -> Result<NodeKind, UnknownKind> {
         match number {
-            0 => Some(NodeKind::Empty),
-            1 => Some(NodeKind::Position),
-            2 => Some(NodeKind::Join(Joiner::Sequence)),
-            3 => Some(NodeKind::Join(Joiner::Choice)),
-            4 => Some(NodeKind::Repeat(Postfix::Star)),
-            5 => Some(NodeKind::Repeat(Postfix::Plus)),
-            6 => Some(NodeKind::Repeat(Postfix::Optional)),
-            _ => None,
+            0 => Ok(NodeKind::Empty),
+            1 => Ok(NodeKind::Position),
+            2 => Ok(NodeKind::Join(Joiner::Sequence)),
+            3 => Ok(NodeKind::Join(Joiner::Choice)),
+            4 => Ok(NodeKind::Repeat(Postfix::Star)),
+            5 => Ok(NodeKind::Repeat(Postfix::Plus)),
+            6 => Ok(NodeKind::Repeat(Postfix::Optional)),
+            _ => Err(UnknownKind(number)),
         }
     }
 }
@@ -78,7 +84,7 @@ impl Node {
         ensures { result ≡ node_of kind a b }
     {
         Node {
-            kind: kind.number(),
+            kind: kind.into(),
             a,
             b,
         }

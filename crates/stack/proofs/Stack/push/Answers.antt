@@ -1,4 +1,4 @@
-use Rattle.std.proofs.Common.{refl, length-set, rules}
+use Rattle.std.proofs.Common.{refl, length-set}
 use Rattle.stack.proofs.Held.{held_push}
 use Rattle.stack.proofs.Stack.push.Goals as goal
 
@@ -6,9 +6,6 @@ pub returns-then-self : goal.returns-then-self
 returns-then-self g c =
     record {
       lent = record { at = refl; long = length-set _ _ _ };
-      room = search rules;
-      pushed = λ _. held_push _ _ _ c.if-self.true;
-      written = λ _. refl;
-      count = λ _. refl;
-      full = λ e. search rules;
+      room = c.if-self.true;
+      pushed = (held_push _ _ _ c.if-self.true, refl, refl);
     }

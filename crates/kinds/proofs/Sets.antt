@@ -1,0 +1,36 @@
+use Rattle.std.proofs.Common.{◌≡◌, ℕ, ◌+◌, ◌<◌, ◌≤◌, Bool, true, false, ◌⊎◌, List, length, get_or, drop, inl, inr, arith}
+use Rattle.std.proofs.lemmas.List.{drop_more, drop_all}
+use Rattle.std.proofs.lemmas.Bool.{ne_eqb}
+use Rattle.kinds.specs.declared.Refusal.TheVariants.{UnfinishedSet}
+use Rattle.kinds.specs.Atoms.{refused_at}
+use Rattle.kinds.specs.Sets.{Turn, after_turn, run_set, set_from}
+
+-- The machine of a set, run over what is left of a text at a place.
+module _ {M C : Type 0} (start : M) (turn : M → ℕ → ℕ → ℕ → Turn M C) (others : C → C) where
+  module _ (negated : Bool) (bracket : ℕ) where
+    -- One byte of the run, where the turn that it makes is known.
+    pub run_at : (text : List ℕ) (i : ℕ) (state : M) (t : Turn M C) → i < length text → t ≡ turn state bracket i (get_or text i 0)
+        → run_set start turn others negated bracket (drop i text) i state
+        ≡ after_turn start turn others negated bracket (λ next. run_set start turn others negated bracket (drop (i + 1) text) (i + 1) next) i t
+    unfolding run_set
+    run_at text i state t h e = rw e (rw (drop_more text i 0 h))
+
+    pub run_end : (text : List ℕ) (i : ℕ) (state : M) → length text ≤ i
+        → run_set start turn others negated bracket (drop i text) i state ≡ refused_at UnfinishedSet bracket
+    unfolding run_set
+    run_end text i state h = rw (drop_all i text h)
+
+  -- What stands behind `[`, where the next byte is known or there is none.
+  pub behind_caret : (text : List ℕ) (i : ℕ) → i + 1 < length text → get_or text (i + 1) 0 ≡ 94
+      → run_set start turn others true i (drop (i + 1 + 1) text) (i + 1 + 1) start ≡ set_from start turn others (drop (i + 1) text) i
+  behind_caret text i h e =
+      let two : i + 1 + 1 ≡ i + 2 = omega arith in
+      rw (drop_more text (i + 1) 0 h) (rw e (rw two))
+
+  pub behind_bracket : (text : List ℕ) (i : ℕ)
+      → (length text ≤ i + 1) ⊎ ((i + 1 < length text) × (get_or text (i + 1) 0 ≡ 94 → ⊥))
+      → run_set start turn others false i (drop (i + 1) text) (i + 1) start ≡ set_from start turn others (drop (i + 1) text) i
+  unfolding run_set
+  behind_bracket text i (inl h) = rw (drop_all (i + 1) text h)
+  behind_bracket text i (inr h) =
+      let l = h.0 in rw (drop_more text (i + 1) 0 l) (rw (ne_eqb (get_or text (i + 1) 0) 94 h.1))
