@@ -1,2 +1,3 @@
 pub mod Bools
 pub mod Bits
+pub mod NumberSets

@@ -7,6 +7,10 @@ ghost use Rattle.std.specs.Prelude.{◌≡◌, ◌^◌, if◌then◌else◌, bit
 ghost use Rattle.sets.specs.Sets.{member};
 ghost use Rattle.sets.specs.Laws.{SetLaws, Added};
 
+mod number_set;
+
+pub use number_set::NumberSet;
+
 // Whether x belongs to the set; nothing from 64 up does.
 // Its second clause says what belonging means for `|`, `&`, `!`, `count_ones` and equality, at any
 // number of bits: the laws that proofs about sets rest on.

@@ -1,0 +1,111 @@
+use Rattle.std.proofs.Common.{◌≡◌, ℕ, zero, suc, ◌+◌, ◌*◌, ◌/◌, ◌%◌, ◌^◌, ◌<◌, ◌≤◌, Bool, false, ◌||◌, ◌⊎◌, ◌&&◌, true, ltb, List, length, get_or, set, replicate, refl, sym, ap, ◌∙◌, inl, inr, arith}
+use Rattle.std.specs.Prelude.{◌==◌, ◌≢◌}
+use Rattle.std.proofs.lemmas.Bool.{cases_eq, cases_lt, ne_eqb}
+use Rattle.std.proofs.lemmas.Bool.Decides.{nat_tests}
+use Rattle.sets.specs.Laws.{Added}
+use Rattle.std.proofs.lemmas.List.{ext_get_or, get_or-replicate, get_or-set_same, get_or-set_other, get_or_past, length-replicate}
+use Rattle.std.proofs.lemmas.Nat.{div-mul-add, mod-mul-add}
+use Rattle.sets.specs.Sets.{member, gathered}
+use Rattle.sets.specs.declared.number_set.NumberSet.{NumberSet}
+use Rattle.sets.specs.NumberSets.{in_words, has, words_of, set_of, Words}
+use Rattle.sets.proofs.Bits.{member-gathered, gathered-lt, sets_same, bit-none}
+
+length-words_of : (f : ℕ → Bool) (i w : ℕ) → length (words_of f i w) ≡ w
+unfolding words_of
+length-words_of f i zero = refl
+length-words_of f i (suc w) = ap suc (length-words_of f (suc i) w)
+
+small-words_of : (f : ℕ → Bool) (i w q : ℕ) → get_or (words_of f i w) q 0 < 2 ^ 64
+unfolding words_of
+small-words_of f i zero q = omega arith
+small-words_of f i (suc w) zero = gathered-lt (λ j. f (i * 64 + j)) 64
+small-words_of f i (suc w) (suc q) = small-words_of f (suc i) w q
+
+word_at : (f : ℕ → Bool) (i w q : ℕ) → q < w → get_or (words_of f i w) q 0 ≡ gathered (λ j. f ((i + q) * 64 + j)) 64
+unfolding words_of
+word_at f i zero q h = absurd (omega arith)
+word_at f i (suc w) zero h = let e : i + 0 ≡ i = omega arith in rw e
+word_at f i (suc w) (suc q) h = let e : i + suc q ≡ suc i + q = omega arith in rw e (word_at f (suc i) w q (omega arith))
+
+module _ (w : ℕ) where
+  -- Sets that have the same numbers are equal.
+  pub set_same : (s t : NumberSet w) → Words s → Words t → ((n : ℕ) → n < 64 * w → has s n ≡ has t n) → s ≡ t
+  set_same s t u v same =
+      ap (λ words. record { words = words })
+      (ext_get_or 0 s.words t.words (u.many ∙ sym v.many)
+      (λ i l. sets_same 64 (get_or s.words i 0) (get_or t.words i 0) (u.small i) (v.small i)
+      (λ x k. let m = u.many in rw (div-mul-add i 64 x k, mod-mul-add i 64 x k) at (same (i * 64 + x) (omega arith)))))
+
+  pub set_of-words : (f : ℕ → Bool) → Words (set_of {w = w} f)
+  unfolding set_of
+  set_of-words f = record { many = length-words_of f 0 w; small = small-words_of f 0 w }
+
+  -- The set of a test has exactly the numbers that pass it.
+  pub set_of-has : (f : ℕ → Bool) (n : ℕ) → n < 64 * w → has (set_of {w = w} f) n ≡ f n
+  unfolding set_of
+  set_of-has f n h =
+      let e : n / 64 * 64 + n % 64 ≡ n = omega arith in
+      let l : n % 64 < 64 = omega arith in
+      rw (word_at f 0 w (n / 64) (omega arith)) (member-gathered (λ j. f ((0 + n / 64) * 64 + j)) 64 (n % 64) l ∙ ap f (omega arith))
+
+  pub is_set_of : (s : NumberSet w) (f : ℕ → Bool) → Words s → ((n : ℕ) → n < 64 * w → has s n ≡ f n) → s ≡ set_of f
+  is_set_of s f u same = set_same s (set_of f) u (set_of-words f) (λ n h. same n h ∙ sym (set_of-has f n h))
+
+  -- Tests that agree on all numbers have one set.
+  pub set_of-same : (f g : ℕ → Bool) → ((n : ℕ) → n < 64 * w → f n ≡ g n) → set_of {w = w} f ≡ set_of g
+  set_of-same f g same = is_set_of (set_of f) g (set_of-words f) (λ n h. set_of-has f n h ∙ same n h)
+
+-- Words without a number.
+abbrev zeros : ℕ → List ℕ
+zeros w = replicate w 0
+
+get_or_zeros : (w i : ℕ) → get_or (zeros w) i 0 ≡ 0
+get_or_zeros w i = go (cases_lt i w)
+  where
+    go : (i < w) ⊎ (w ≤ i) → get_or (zeros w) i 0 ≡ 0
+    go (inl h) = get_or-replicate w i 0 0 h
+    go (inr h) = get_or_past (zeros w) i 0 (let l = length-replicate {A = ℕ} w 0 in omega arith)
+
+pub no_number : (w : ℕ) → record { words = zeros w } ≡ set_of {w = w} (λ n. false)
+no_number w =
+    is_set_of w (record { words = zeros w }) (λ n. false)
+    (record { many = length-replicate w 0; small = λ i. let e = get_or_zeros w i in omega arith })
+    (λ n h. rw (get_or_zeros w (n / 64)) (ap (λ b. b == 1) (bit-none (n % 64))))
+
+same_number : (x n : ℕ) → x / 64 ≡ n / 64 → (x % 64 == n % 64) ≡ (x == n)
+same_number x n e = grind (arith, nat_tests)
+
+-- Words with a number added to the one that it belongs to.
+pub in_words-added : (words : List ℕ) (n r : ℕ) → n / 64 < length words → Added 64 (get_or words (n / 64) 0) (n % 64) r → (x : ℕ)
+    → in_words (set words (n / 64) r) x ≡ ((x == n) || in_words words x)
+in_words-added words n r h added x = go (cases_eq (x / 64) (n / 64))
+  where
+    go : (x / 64 ≡ n / 64) ⊎ (x / 64 ≢ n / 64) → in_words (set words (n / 64) r) x ≡ ((x == n) || in_words words x)
+    go (inl e) =
+        let l : x % 64 < 64 = omega arith in
+        rw e (rw (get_or-set_same words (n / 64) r 0 h) (added (x % 64) l ∙ ap (λ b. b || member (get_or words (n / 64) 0) (x % 64)) (same_number x n e)))
+    go (inr e) =
+        rw (get_or-set_other words (n / 64) (x / 64) r 0 e) (rw (ne_eqb x n (λ k. e (ap (λ y. y / 64) k))))
+
+pub small-set : (words : List ℕ) (q r : ℕ) → q < length words → r < 2 ^ 64 → ((i : ℕ) → get_or words i 0 < 2 ^ 64)
+    → (i : ℕ) → get_or (set words q r) i 0 < 2 ^ 64
+small-set words q r h l small i = go (cases_eq i q)
+  where
+    go : (i ≡ q) ⊎ (i ≢ q) → get_or (set words q r) i 0 < 2 ^ 64
+    go (inl e) = rw e (rw (get_or-set_same words q r 0 h) l)
+    go (inr e) = rw (get_or-set_other words q i r 0 e) (small i)
+
+-- One number more is tested: one that passes and is added, and one that does not pass or is none of these.
+pub passed : (f : ℕ → Bool) (x n : ℕ) (m : Bool) → f n ≡ true → m ≡ (ltb x n && f x) → ((x == n) || m) ≡ (ltb x (n + 1) && f x)
+passed f x n m t e = go (cases_eq x n)
+  where
+    go : (x ≡ n) ⊎ (x ≢ n) → ((x == n) || m) ≡ (ltb x (n + 1) && f x)
+    go (inl k) = let u : f x ≡ true = ap f k ∙ t in grind (arith, nat_tests)
+    go (inr k) = grind (arith, nat_tests)
+
+pub not_passed : (f : ℕ → Bool) (x n : ℕ) (m : Bool) → (x ≡ n → f n ≡ false) → m ≡ (ltb x n && f x) → m ≡ (ltb x (n + 1) && f x)
+not_passed f x n m t e = go (cases_eq x n)
+  where
+    go : (x ≡ n) ⊎ (x ≢ n) → m ≡ (ltb x (n + 1) && f x)
+    go (inl k) = let u : f x ≡ false = ap f k ∙ t k in grind (arith, nat_tests)
+    go (inr k) = grind (arith, nat_tests)
