@@ -1,41 +1,11 @@
-use Rattle.std.proofs.Common.{◌≡◌, ℕ, ◌+◌, ◌<◌, ◌≤◌, Bool, true, false, ◌⊎◌, List, ◌∷◌, length, get_or, drop, Ok, sym, refl, ◌∙◌, inl, inr, arith}
+use Rattle.std.proofs.Common.{◌≡◌, ℕ, ◌+◌, ◌<◌, ◌≤◌, true, false, List, ◌∷◌, length, get_or, drop, Ok, sym, refl, ◌∙◌}
 use Rattle.std.proofs.lemmas.List.{drop_more, drop_all}
-use Rattle.kinds.specs.declared.Refusal.TheVariants.{NoAtom, UnfinishedEscape, UnfinishedSet}
+use Rattle.kinds.specs.declared.Refusal.TheVariants.{NoAtom, UnfinishedEscape}
 use Rattle.kinds.specs.Atoms.{refused_at, is_operator}
 use Rattle.byte_kind.specs.declared.class.ByteClass.{ByteClass}
-use Rattle.byte_kind.specs.declared.set.SetState.{SetState}
-use Rattle.byte_kind.specs.declared.set.Turn.{Turn}
-use Rattle.byte_kind.specs.Reading.{turn_of, after_turn, run_set, set_from, escape_from, atom_from, byte_reading}
-use Rattle.byte_kind.specs.Class.{empty_class, only_class, others}
-use Rattle.byte_kind.specs.declared.set.SetState.TheVariants.{Start}
+use Rattle.byte_kind.specs.Reading.{set_from, escape_from, atom_from, byte_reading}
+use Rattle.byte_kind.specs.Class.{only_class, others}
 use Rattle.std.proofs.lemmas.Bool.{ne_eqb}
-
-module _ (negated : Bool) (bracket : ℕ) where
-  -- One byte of the run, where the turn that it makes is known.
-  pub run_at : (text : List ℕ) (i : ℕ) (state : SetState) (c : ByteClass) (t : Turn) → i < length text
-      → t ≡ turn_of state c i (get_or text i 0)
-      → run_set negated bracket (drop i text) i state c
-      ≡ after_turn negated bracket (λ next d. run_set negated bracket (drop (i + 1) text) (i + 1) next d) i t
-  unfolding run_set
-  run_at text i state c t h e = rw e (rw (drop_more text i 0 h))
-
-  pub run_end : (text : List ℕ) (i : ℕ) (state : SetState) (c : ByteClass) → length text ≤ i
-      → run_set negated bracket (drop i text) i state c ≡ refused_at UnfinishedSet bracket
-  unfolding run_set
-  run_end text i state c h = rw (drop_all i text h)
-
--- What stands behind `[`, where the next byte is known or there is none.
-pub inside_caret : (text : List ℕ) (i : ℕ) → i + 1 < length text → get_or text (i + 1) 0 ≡ 94
-    → run_set true i (drop (i + 1 + 1) text) (i + 1 + 1) Start empty_class ≡ set_from (drop (i + 1) text) i
-inside_caret text i h e =
-    let two : i + 1 + 1 ≡ i + 2 = omega arith in
-    rw (drop_more text (i + 1) 0 h) (rw e (rw two))
-
-pub inside_straight : (text : List ℕ) (i : ℕ) → (length text ≤ i + 1) ⊎ ((i + 1 < length text) × (get_or text (i + 1) 0 ≡ 94 → ⊥))
-    → run_set false i (drop (i + 1) text) (i + 1) Start empty_class ≡ set_from (drop (i + 1) text) i
-unfolding run_set
-inside_straight text i (inl h) = rw (drop_all (i + 1) text h)
-inside_straight text i (inr h) = let l = h.0 in rw (drop_more text (i + 1) 0 l) (rw (ne_eqb (get_or text (i + 1) 0) 94 h.1))
 
 -- What stands behind `\`.
 pub escape_cut : (text : List ℕ) (i : ℕ) → length text ≤ i + 1 → refused_at UnfinishedEscape i ≡ escape_from (drop (i + 1) text) i

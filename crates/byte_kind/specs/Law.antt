@@ -1,4 +1,4 @@
-use Rattle.std.specs.Prelude.{◌≡◌, ℕ, zero, suc, ◌+◌, ◌-◌, ◌/◌, ◌%◌, ◌^◌, ◌<◌, ◌≤◌, Bool, true, false, not, ◌||◌, ◌⊎◌, List, [], ◌∷◌, length, drop, ◌==◌, ◌≢◌, slice_index, refl}
+use Rattle.std.specs.Prelude.{◌≡◌, ℕ, zero, suc, ◌+◌, ◌-◌, ◌<◌, ◌≤◌, Bool, true, false, not, ◌||◌, ◌⊎◌, List, [], ◌∷◌, length, drop, ◌==◌, ◌≢◌, slice_index, refl}
 use Rattle.std.proofs.Common.{sym, ◌∙◌, ap, inl, inr, arith}
 use Rattle.std.proofs.lemmas.Bool.{ne_eqb, cases_eq, cases_lt}
 use Rattle.std.proofs.lemmas.Bool.Decides.{nat_tests}
@@ -11,32 +11,25 @@ use Rattle.kinds.proofs.Language as language
 use Rattle.kinds.proofs.Language.{leads_shorter, Inside, at_start}
 use Rattle.kinds.proofs.Operators.{operator_is, not_operator, cases_operator}
 use Rattle.sets.proofs.Bools.{or_false, or_swap}
-use Rattle.sets.proofs.Bits.{bit-none}
 use Rattle.byte_kind.specs.declared.class.ByteClass.{ByteClass}
 use Rattle.byte_kind.specs.Class.{has_byte, between, ranged, others, empty_class, only_class, Words}
-use Rattle.byte_kind.specs.Reading.{whole_class, atom_from, byte_reading}
+use Rattle.byte_kind.specs.Reading.{none_so_far, turn_of, whole_class, atom_from, byte_reading}
 use Rattle.byte_kind.specs.Language.{Spelled, plain, escaped, Ranges, Item, Items, none, single, range, Cut, at_item, at_escape, at_last, Shape, any, only, in_items, admitted_by, set_shape, Written, dot, escape, set, ordinary, Faulty, ended, operator, cut_escape, cut_set, backward, no_items, Exact, ReadAsWritten}
-use Rattle.byte_kind.specs.Classes.{class_same, class_of-words, class_of-has}
-use Rattle.byte_kind.specs.Sets.{add_all, closed_run, unfinished_run, backward_run, empty_run, leads_run}
+use Rattle.sets.proofs.NumberSets.{set_same, set_of-words, set_of-has, has-no_number}
+use Rattle.kinds.proofs.Sets as sets
+use Rattle.byte_kind.specs.Sets.{add_all, closed_run, unfinished_run, backward_run, empty_run}
 
 -- What the classes have.
 
 no_byte : (b : ℕ) → has_byte empty_class b ≡ false
-no_byte b = go (b / 64)
-  where
-    go : (q : ℕ) → (slice_index (0 ∷ 0 ∷ 0 ∷ 0 ∷ []) q / 2 ^ (b % 64) % 2 == 1) ≡ false
-    go zero = rw (bit-none (b % 64))
-    go (suc zero) = rw (bit-none (b % 64))
-    go (suc (suc zero)) = rw (bit-none (b % 64))
-    go (suc (suc (suc zero))) = rw (bit-none (b % 64))
-    go (suc (suc (suc (suc q)))) = rw (bit-none (b % 64))
+no_byte b = has-no_number 4 b
 
 has_ranged : (c : ByteClass) (first last b : ℕ) → b < 256
     → has_byte (ranged c first last) b ≡ (between first last b || has_byte c b)
-has_ranged c first last b h = class_of-has (λ x. between first last x || has_byte c x) b h
+has_ranged c first last b h = set_of-has 4 (λ x. between first last x || has_byte c x) b h
 
 has_others : (c : ByteClass) (b : ℕ) → b < 256 → has_byte (others c) b ≡ not (has_byte c b)
-has_others c b h = class_of-has (λ x. not (has_byte c x)) b h
+has_others c b h = set_of-has 4 (λ x. not (has_byte c x)) b h
 
 has_only : (c b : ℕ) → b < 256 → has_byte (only_class c) b ≡ (b == c)
 has_only c b h = has_ranged empty_class c c b h ∙ rw (no_byte b) (grind (arith, nat_tests))
@@ -57,11 +50,11 @@ has_whole false items b h = has_items items b h
 
 words_all : (items : List Item) (c : ByteClass) → Words c → Words (add_all c items)
 words_all [] c w = w
-words_all (item ∷ items) c w = words_all items (ranged c item.first item.last) (class_of-words _)
+words_all (item ∷ items) c w = words_all items (ranged c item.first item.last) (set_of-words 4 _)
 
 words_whole : (negated : Bool) (item : Item) (items : List Item) → Words (whole_class negated (add_all empty_class (item ∷ items)))
-words_whole true item items = class_of-words _
-words_whole false item items = words_all items (ranged empty_class item.first item.last) (class_of-words _)
+words_whole true item items = set_of-words 4 _
+words_whole false item items = words_all items (ranged empty_class item.first item.last) (set_of-words 4 _)
 
 -- What is read leaves less of the text.
 
@@ -81,7 +74,7 @@ abbrev ReadOk : List ℕ → List ℕ → Shape → ℕ → Type 0
 ReadOk text rest shape i = language.ReadOk Written Faulty Exact atom_from text rest shape i
 
 exact_only : (c : ℕ) → Exact (only c) (only_class c)
-exact_only c = record { words = class_of-words _; members = has_only c }
+exact_only c = record { words = set_of-words 4 _; members = has_only c }
 
 written_read : (text rest : List ℕ) (shape : Shape) → Written text shape rest → (i : ℕ) → ReadOk text rest shape i
 written_read text rest shape dot i =
@@ -89,12 +82,12 @@ written_read text rest shape dot i =
       atom = record { class = others (only_class 10); length = 1 };
       is = refl;
       long = omega arith;
-      exact = record { words = class_of-words _; members = λ b h. has_others (only_class 10) b h ∙ ap not (has_only 10 b h) };
+      exact = record { words = set_of-words 4 _; members = λ b h. has_others (only_class 10) b h ∙ ap not (has_only 10 b h) };
     }
 written_read text rest shape (escape {b = c}) i =
     record { atom = record { class = only_class c; length = 2 }; is = refl; long = omega arith; exact = exact_only c }
 written_read text rest shape (set {inside = inside} {negated = negated} {item = item} {items = items} l r) i =
-    let p = leads_run l i in
+    let p = sets.leads_run none_so_far turn_of others l i in
     let q = closed_run negated i r p.0 empty_class in
     record {
       atom = record { class = whole_class negated (add_all empty_class (item ∷ items)); length = q.0 - i };
@@ -127,14 +120,14 @@ faulty_read text here why ended i = record { place = i; is = refl; placed = refl
 faulty_read text here why (operator {b = b} {rest = rest} h) i = record { place = i; is = at_operator b rest i h; placed = refl }
 faulty_read text here why cut_escape i = record { place = i; is = refl; placed = refl }
 faulty_read text here why (cut_set {negated = negated} l r k) i =
-    let p = leads_run l i in
+    let p = sets.leads_run none_so_far turn_of others l i in
     record { place = i; is = p.2 ∙ unfinished_run negated i r k p.0 empty_class; placed = refl }
 faulty_read text here why (backward {negated = negated} l r s t h) i =
-    let p = leads_run l i in
+    let p = sets.leads_run none_so_far turn_of others l i in
     let q = backward_run negated i r s t h p.0 empty_class in
     record { place = q.0; is = p.2 ∙ q.2; placed = omega arith }
 faulty_read text here why (no_items {rest = rest} {negated = negated} l) i =
-    let p = leads_run l i in
+    let p = sets.leads_run none_so_far turn_of others l i in
     record { place = i; is = p.2 ∙ empty_run negated i rest p.0 empty_class; placed = refl }
 
 -- Every text begins with an atom or has a fault.
@@ -242,7 +235,7 @@ outcome (b ∷ rest) = go rest (cases_eq b 46) (cases_eq b 92) (cases_eq b 91) (
 -- The reading is what the language says.
 
 one_class : (shape : Shape) (c d : ByteClass) → Exact shape c → Exact shape d → c ≡ d
-one_class shape c d v w = class_same c d v.words w.words (λ b h. v.members b h ∙ sym (w.members b h))
+one_class shape c d v w = ap (λ s. record { bytes = s }) (set_same 4 c.bytes d.bytes v.words w.words (λ b h. v.members b h ∙ sym (w.members b h)))
 
 pub read_as_written : (text : List ℕ) (i : ℕ) → ReadAsWritten text i (byte_reading text i)
 unfolding byte_reading

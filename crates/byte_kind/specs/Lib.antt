@@ -2,5 +2,4 @@ pub mod Class
 pub mod Language
 pub mod Reading
 pub mod Law
-pub mod Classes
 pub mod Sets

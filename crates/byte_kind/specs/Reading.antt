@@ -1,58 +1,60 @@
-use Rattle.std.specs.Prelude.{ℕ, ◌+◌, ◌-◌, Bool, true, false, cond, List, [], ◌∷◌, drop, Ok, Result, ◌==◌, nat_lt}
+use Rattle.std.specs.Prelude.{ℕ, Bool, cond, List, [], ◌∷◌, drop, Ok, Result, ◌==◌, nat_lt}
 use Rattle.kinds.specs.declared.Atom.{Atom}
 use Rattle.kinds.specs.declared.Refused.{Refused}
-use Rattle.kinds.specs.declared.Refusal.TheVariants.{UnfinishedEscape, UnfinishedSet, BackwardRange, EmptySet}
+use Rattle.kinds.specs.declared.Refusal.TheVariants.{UnfinishedEscape, BackwardRange, EmptySet}
 use Rattle.kinds.specs.Atoms.{refused_at, no_atom_at, is_operator}
 use Rattle.byte_kind.specs.declared.class.ByteClass.{ByteClass}
 use Rattle.byte_kind.specs.declared.set.SetState.{SetState}
 use Rattle.byte_kind.specs.declared.set.SetState.TheVariants.{Start, Between, Escape, First, Dash, LastEscape}
-use Rattle.byte_kind.specs.declared.set.Turn.{Turn}
-use Rattle.byte_kind.specs.declared.set.Turn.TheVariants.{On, Closed, NoItems, Backward}
+use Rattle.byte_kind.specs.declared.set.Items.{Items}
+use Rattle.std.specs.declared.ops.ControlFlow.TheVariants.{Continue, Break}
+use Rattle.kinds.specs.Sets as sets
+use Rattle.kinds.specs.Sets.{Turn}
 use Rattle.byte_kind.specs.Class.{ranged, others, empty_class, only_class}
 
 -- What the program computes: the set reader as a machine, one byte a turn.
 
+-- The set goes on, or is closed.
+abbrev pub on : SetState → ByteClass → Turn Items ByteClass
+on state c = Ok (Continue (record { state = state; class = c }))
+
+abbrev pub closed : ByteClass → Turn Items ByteClass
+closed c = Ok (Break c)
+
+abbrev pub none_so_far : Items
+none_so_far = record { state = Start; class = empty_class }
+
 -- A byte that begins an item.
-abbrev pub begin_item : ByteClass → ℕ → ℕ → Turn
-begin_item c place b = cond (b == 92) (On (Escape place) c) (On (First b place) c)
+abbrev pub begin_item : ByteClass → ℕ → ℕ → Turn Items ByteClass
+begin_item c place b = cond (b == 92) (on (Escape place) c) (on (First b place) c)
 
 -- A byte that ends a range.
-abbrev pub end_range : ByteClass → ℕ → ℕ → ℕ → Turn
-end_range c first place b = cond (nat_lt b first) (Backward place) (On Between (ranged c first b))
+abbrev pub end_range : ByteClass → ℕ → ℕ → ℕ → Turn Items ByteClass
+end_range c first at b = cond (nat_lt b first) (refused_at BackwardRange at) (on Between (ranged c first b))
 
-abbrev pub turn_of : SetState → ByteClass → ℕ → ℕ → Turn
-turn_of Start c place b = cond (b == 93) NoItems (begin_item c place b)
-turn_of Between c place b = cond (b == 93) (Closed c) (begin_item c place b)
-turn_of (Escape at) c place b = On (First b at) c
-turn_of (First first at) c place b =
-    cond (b == 45) (On (Dash first at) c)
-    (cond (b == 93) (Closed (ranged c first first)) (begin_item (ranged c first first) place b))
-turn_of (Dash first at) c place b =
-    cond (b == 93) (Closed (ranged (ranged c first first) 45 45))
-    (cond (b == 92) (On (LastEscape first at) c) (end_range c first at b))
-turn_of (LastEscape first at) c place b = end_range c first at b
+abbrev pub turn_in : SetState → ByteClass → ℕ → ℕ → ℕ → Turn Items ByteClass
+turn_in Start c bracket place b = cond (b == 93) (refused_at EmptySet bracket) (begin_item c place b)
+turn_in Between c bracket place b = cond (b == 93) (closed c) (begin_item c place b)
+turn_in (Escape at) c bracket place b = on (First b at) c
+turn_in (First first at) c bracket place b =
+    cond (b == 45) (on (Dash first at) c)
+    (cond (b == 93) (closed (ranged c first first)) (begin_item (ranged c first first) place b))
+turn_in (Dash first at) c bracket place b =
+    cond (b == 93) (closed (ranged (ranged c first first) 45 45))
+    (cond (b == 92) (on (LastEscape first at) c) (end_range c first at b))
+turn_in (LastEscape first at) c bracket place b = end_range c first at b
+
+-- The turn that a byte makes, by the places of the `[` and of the byte.
+abbrev pub turn_of : Items → ℕ → ℕ → ℕ → Turn Items ByteClass
+turn_of items bracket place b = turn_in items.state items.class bracket place b
 
 -- The class of a whole set.
 abbrev pub whole_class : Bool → ByteClass → ByteClass
 whole_class negated c = cond negated (others c) c
 
-module _ (negated : Bool) (bracket : ℕ) where
-  abbrev pub after_turn : (SetState → ByteClass → Result (Atom ByteClass) Refused) → ℕ → Turn → Result (Atom ByteClass) Refused
-  after_turn go place (On state c) = go state c
-  after_turn go place (Closed c) = Ok (record { class = whole_class negated c; length = place + 1 - bracket })
-  after_turn go place NoItems = refused_at EmptySet bracket
-  after_turn go place (Backward at) = refused_at BackwardRange at
-
-  -- The rest of a set, from a place, a state and a class on.
-  unfoldable pub run_set : List ℕ → ℕ → SetState → ByteClass → Result (Atom ByteClass) Refused
-  run_set [] place state c = refused_at UnfinishedSet bracket
-  run_set (b ∷ rest) place state c = after_turn (λ next d. run_set rest (place + 1) next d) place (turn_of state c place b)
-
 -- Behind the `[` at a place.
 abbrev pub set_from : List ℕ → ℕ → Result (Atom ByteClass) Refused
-set_from [] i = refused_at UnfinishedSet i
-set_from (b ∷ rest) i =
-    cond (b == 94) (run_set true i rest (i + 2) Start empty_class) (run_set false i (b ∷ rest) (i + 1) Start empty_class)
+set_from rest i = sets.set_from none_so_far turn_of others rest i
 
 -- Behind the `\` at a place.
 abbrev pub escape_from : List ℕ → ℕ → Result (Atom ByteClass) Refused

@@ -7,12 +7,12 @@ use Rattle.kinds.specs.declared.Atom.{Atom}
 use Rattle.kinds.specs.declared.Refused.{Refused}
 use Rattle.kinds.specs.declared.Refusal.TheVariants.{UnfinishedSet, BackwardRange, EmptySet}
 use Rattle.kinds.specs.Atoms.{refused_at}
-use Rattle.kinds.specs.Language.{Leads, caret, straight}
 use Rattle.byte_kind.specs.declared.class.ByteClass.{ByteClass}
 use Rattle.byte_kind.specs.declared.set.SetState.{SetState}
 use Rattle.byte_kind.specs.declared.set.SetState.TheVariants.{Start, Between, First, Dash}
-use Rattle.byte_kind.specs.Class.{ranged, empty_class}
-use Rattle.byte_kind.specs.Reading.{whole_class, run_set, set_from}
+use Rattle.byte_kind.specs.Class.{ranged, others}
+use Rattle.kinds.specs.Sets.{run_set}
+use Rattle.byte_kind.specs.Reading.{none_so_far, turn_of, whole_class}
 use Rattle.byte_kind.specs.Language.{Spelled, plain, escaped, Ranges, Item, Items, none, single, range, Cut, at_item, at_escape, at_last}
 
 -- The class of the items, added to a class one by one.
@@ -21,8 +21,8 @@ add_all c [] = c
 add_all c (item ∷ items) = add_all (ranged c item.first item.last) items
 
 module _ (negated : Bool) (bracket : ℕ) where
-  abbrev run : List ℕ → ℕ → SetState → ByteClass → Result (Atom ByteClass) Refused
-  run text p state c = run_set negated bracket text p state c
+  abbrev pub run : List ℕ → ℕ → SetState → ByteClass → Result (Atom ByteClass) Refused
+  run text p state c = run_set none_so_far turn_of others negated bracket text p (record { state = state; class = c })
 
   -- The run over a text from a place goes on with the rest of the text, from its place.
   abbrev Goes : List ℕ → ℕ → SetState → ByteClass → List ℕ → SetState → ByteClass → Type 0
@@ -142,11 +142,3 @@ module _ (negated : Bool) (bracket : ℕ) where
   pub empty_run : (rest : List ℕ) (p : ℕ) (c : ByteClass) → run (93 ∷ rest) p Start c ≡ refused_at EmptySet bracket
   unfolding run_set
   empty_run rest p c = refl
-
--- What follows `[` is run from behind a leading `^`.
-pub leads_run : {inside start : List ℕ} {negated : Bool} → Leads inside negated start → (i : ℕ)
-    → (p : ℕ) × (p + length start ≡ i + 1 + length inside) × (set_from inside i ≡ run_set negated i start p Start empty_class)
-unfolding run_set
-leads_run caret i = (i + 2, omega arith, refl)
-leads_run (straight {text = []} n) i = (i + 1, refl, refl)
-leads_run (straight {text = b ∷ rest} n) i = (i + 1, refl, rw (ne_eqb b 94 n))

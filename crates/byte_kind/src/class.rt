@@ -1,13 +1,12 @@
-ghost use Rattle.std.specs.Prelude.{◌≡◌, ℕ, ◌+◌, ◌<◌, ◌≤◌, not, ◌||◌};
-ghost use Rattle.sets.specs.Sets.{member, gathered};
+ghost use Rattle.std.specs.Prelude.{◌≡◌, ℕ, ◌<◌, not, ◌||◌};
 ghost use Rattle.byte_kind.specs.Class.{has_byte, between, ranged, others, empty_class, only_class};
 
-use sets::{contains, insert};
+use sets::NumberSet;
 
-// A set of bytes: byte b is bit b % 64 of word b / 64.
+// A set of bytes, each by its value.
 #[derive(Clone, Copy, PartialEq, Eq, Debug)]
 pub struct ByteClass {
-    words: [u64; 4],
+    bytes: NumberSet<4>,
 }
 
 impl ByteClass {
@@ -15,8 +14,9 @@ impl ByteClass {
     pub fn empty() -> ByteClass
         ensures { result ≡ empty_class }
     {
-        let words = [0u64; 4];
-        ByteClass { words }
+        ByteClass {
+            bytes: NumberSet::empty(),
+        }
     }
 
     // One byte alone.
@@ -29,8 +29,7 @@ impl ByteClass {
     pub fn has(self, byte: u8) -> bool
         ensures { result ≡ has_byte self byte }
     {
-        let at = byte as usize;
-        contains(self.words[at / 64], at % 64)
+        self.bytes.has(usize::from(byte))
     }
 
     // The class with the bytes from first to last added, both included; none if last comes before first.
@@ -38,14 +37,10 @@ impl ByteClass {
         ensures value { result ≡ ranged self first last }
         ensures members { (b : ℕ) → b < 256 → has_byte result b ≡ (between first last b || has_byte self b) }
     {
-        let [a, b, c, d] = self.words;
-        let words = [
-            with_span(a, 0, first, last),
-            with_span(b, 64, first, last),
-            with_span(c, 128, first, last),
-            with_span(d, 192, first, last),
-        ];
-        ByteClass { words }
+        let (first, last) = (usize::from(first), usize::from(last));
+        ByteClass {
+            bytes: NumberSet::gathered(256, |b| first <= b && b <= last || self.bytes.has(b)),
+        }
     }
 
     // Every byte that the class lacks.
@@ -53,22 +48,8 @@ impl ByteClass {
         ensures value { result ≡ others self }
         ensures members { (b : ℕ) → b < 256 → has_byte result b ≡ not (has_byte self b) }
     {
-        let [a, b, c, d] = self.words;
-        let words = [!a, !b, !c, !d];
-        ByteClass { words }
-    }
-}
-
-// A word of a class, which begins at byte `from`, with its share of a range added.
-fn with_span(word: u64, from: u8, first: u8, last: u8) -> u64
-    requires { from ≤ 192 }
-    ensures { result ≡ gathered (λ j. between first last (from + j) || member word j) 64 }
-{
-    let mut spanned = word;
-    for j in 0..64u8 {
-        if first <= from + j && from + j <= last {
-            spanned = insert(spanned, j as usize);
+        ByteClass {
+            bytes: NumberSet::gathered(256, |b| !self.bytes.has(b)),
         }
     }
-    spanned
 }

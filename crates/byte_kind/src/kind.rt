@@ -6,8 +6,8 @@ ghost use Rattle.byte_kind.specs.Law.{reading_within, reading_beyond, reading_op
 ghost use Rattle.std.proofs.Common.{rules};
 
 use crate::class::ByteClass;
-use crate::set::read_set;
-use kinds::{Atom, Kind, Refusal, Refused, is_operator};
+use crate::set::Items;
+use kinds::{Atom, Kind, Refusal, Refused, is_operator, read_set};
 
 // The kind whose symbols are bytes, each with its value as its number.
 #[derive(Clone, Copy)]
@@ -51,11 +51,11 @@ impl Kind for Bytes {
     }
 
     fn number_of(s: u8) -> usize {
-        s as usize
+        usize::from(s)
     }
 
     fn symbol_of(n: usize) -> Option<u8> {
-        if n < 256 { Some(n as u8) } else { None }
+        u8::try_from(n).ok()
     }
 
     fn cleared_class() -> ByteClass {
@@ -81,10 +81,7 @@ fn read_here(text: &[u8], place: usize) -> Result<Atom<ByteClass>, Refused>
     ensures { result ≡ byte_reading text.now place }
 {
     if place >= text.len() {
-        return Err(Refused {
-            refusal: Refusal::NoAtom,
-            place,
-        });
+        return Err(Refusal::NoAtom.at(place));
     }
     match text[place] {
         b'.' => Ok(Atom {
@@ -92,11 +89,8 @@ fn read_here(text: &[u8], place: usize) -> Result<Atom<ByteClass>, Refused>
             length: 1,
         }),
         b'\\' => read_escape(text, place),
-        b'[' => read_set(text, place),
-        byte if is_operator(byte) => Err(Refused {
-            refusal: Refusal::NoAtom,
-            place,
-        }),
+        b'[' => read_set::<Items>(text, place),
+        byte if is_operator(byte) => Err(Refusal::NoAtom.at(place)),
         byte => Ok(Atom {
             class: ByteClass::only(byte),
             length: 1,
@@ -110,10 +104,7 @@ fn read_escape(text: &[u8], place: usize) -> Result<Atom<ByteClass>, Refused>
     ensures { result ≡ escape_from (drop (place + 1) text.now) place }
 {
     if place + 1 >= text.len() {
-        return Err(Refused {
-            refusal: Refusal::UnfinishedEscape,
-            place,
-        });
+        return Err(Refusal::UnfinishedEscape.at(place));
     }
     Ok(Atom {
         class: ByteClass::only(text[place + 1]),

@@ -1,10 +1,17 @@
-ghost use Rattle.std.specs.Prelude.{◌≡◌, ◌+◌, ◌<◌, ◌≤◌, length, drop};
-ghost use Rattle.byte_kind.specs.Class.{empty_class};
-ghost use Rattle.byte_kind.specs.Reading.{turn_of, whole_class, run_set, set_from};
-ghost use Rattle.byte_kind.specs.declared.set.SetState.TheVariants.{Start as StartState};
+ghost use Rattle.std.specs.Prelude.{◌≡◌};
+ghost use Rattle.byte_kind.specs.Class.{others};
+ghost use Rattle.byte_kind.specs.Reading.{on, none_so_far, turn_of};
 
 use crate::class::ByteClass;
-use kinds::{Atom, Refusal, Refused};
+use kinds::{Refusal, Refused, SetMachine};
+use std::ops::ControlFlow;
+
+// The reading of a set: how far it has come, and the class of the items so far.
+#[derive(Clone, Copy)]
+pub(crate) struct Items {
+    state: SetState,
+    class: ByteClass,
+}
 
 // How far the reading of a set has come. A place is that of an item's first byte, or of its `\`.
 #[derive(Clone, Copy)]
@@ -23,104 +30,66 @@ pub(crate) enum SetState {
     LastEscape(u8, usize),
 }
 
-// What one byte does to the reading of a set.
-#[derive(Clone, Copy)]
-pub(crate) enum Turn {
-    On(SetState, ByteClass),
-    Closed(ByteClass),
-    NoItems,
-    Backward(usize),
+// The set goes on.
+fn on(state: SetState, class: ByteClass) -> Result<ControlFlow<ByteClass, Items>, Refused>
+    ensures { result ≡ on state class }
+{
+    Ok(ControlFlow::Continue(Items { state, class }))
 }
 
-// One byte of a set, at a place, in a state with the items so far.
-fn advance(state: SetState, class: ByteClass, place: usize, byte: u8) -> Turn
-    ensures { result ≡ turn_of state class place byte }
-{
-    match (state, byte) {
-        (SetState::Start, b']') => Turn::NoItems,
-        (SetState::Between, b']') => Turn::Closed(class),
-        (SetState::Start | SetState::Between, b'\\') => Turn::On(SetState::Escape(place), class),
-        (SetState::Start | SetState::Between, b) => Turn::On(SetState::First(b, place), class),
-        (SetState::Escape(at), b) => Turn::On(SetState::First(b, at), class),
-        (SetState::First(first, at), b'-') => Turn::On(SetState::Dash(first, at), class),
-        (SetState::First(first, _), b']') => Turn::Closed(class.with_range(first, first)),
-        (SetState::First(first, _), b'\\') => Turn::On(
-            SetState::Escape(place),
-            class.with_range(first, first),
-        ),
-        (SetState::First(first, _), b) => Turn::On(
-            SetState::First(b, place),
-            class.with_range(first, first),
-        ),
-        (SetState::Dash(first, _), b']') => Turn::Closed(
-            class.with_range(first, first).with_range(b'-', b'-'),
-        ),
-        (SetState::Dash(first, at), b'\\') => Turn::On(SetState::LastEscape(first, at), class),
-        (SetState::Dash(first, at) | SetState::LastEscape(first, at), b) if b < first =>
-            Turn::Backward(at),
-        (SetState::Dash(first, _) | SetState::LastEscape(first, _), b) => {
-            Turn::On(SetState::Between, class.with_range(first, b))
+impl SetMachine for Items {
+    type Class = ByteClass;
+
+    ghost start = { none_so_far };
+
+    ghost turn = { turn_of };
+
+    ghost others = { others };
+
+    fn start() -> Items {
+        Items {
+            state: SetState::Start,
+            class: ByteClass::empty(),
         }
     }
-}
 
-// The class of a whole set, by its items and whether `^` leads.
-fn whole_class(negated: bool, items: ByteClass) -> ByteClass
-    ensures { result ≡ whole_class negated items }
-{
-    if negated { items.complement() } else { items }
-}
-
-// The items of a set, from their first place on, up to its `]`.
-fn read_items(
-    text: &[u8],
-    bracket: usize,
-    from: usize,
-    negated: bool,
-) -> Result<Atom<ByteClass>, Refused>
-    requires { (bracket < from) × (from ≤ length text.now) }
-    ensures { result ≡ run_set negated bracket (drop from text.now) from StartState empty_class }
-{
-    let mut state = SetState::Start;
-    let mut class = ByteClass::empty();
-    for place in from..text.len() {
-        match advance(state, class, place, text[place]) {
-            Turn::On(next, items) => {
-                state = next;
-                class = items;
+    fn advance(
+        self,
+        bracket: usize,
+        place: usize,
+        byte: u8,
+    ) -> Result<ControlFlow<ByteClass, Items>, Refused> {
+        let class = self.class;
+        match (self.state, byte) {
+            (SetState::Start, b']') => Err(Refusal::EmptySet.at(bracket)),
+            (SetState::Between, b']') => Ok(ControlFlow::Break(class)),
+            (SetState::Start | SetState::Between, b'\\') => on(SetState::Escape(place), class),
+            (SetState::Start | SetState::Between, b) => on(SetState::First(b, place), class),
+            (SetState::Escape(at), b) => on(SetState::First(b, at), class),
+            (SetState::First(first, at), b'-') => on(SetState::Dash(first, at), class),
+            (SetState::First(first, _), b']') => {
+                Ok(ControlFlow::Break(class.with_range(first, first)))
             }
-            Turn::Closed(items) => {
-                let class = whole_class(negated, items);
-                return Ok(Atom {
-                    class,
-                    length: place + 1 - bracket,
-                });
+            (SetState::First(first, _), b'\\') => {
+                on(SetState::Escape(place), class.with_range(first, first))
             }
-            Turn::NoItems => return Err(Refused {
-                refusal: Refusal::EmptySet,
-                place: bracket,
-            }),
-            Turn::Backward(at) => return Err(Refused {
-                refusal: Refusal::BackwardRange,
-                place: at,
-            }),
+            (SetState::First(first, _), b) => {
+                on(SetState::First(b, place), class.with_range(first, first))
+            }
+            (SetState::Dash(first, _), b']') => Ok(ControlFlow::Break(
+                class.with_range(first, first).with_range(b'-', b'-'),
+            )),
+            (SetState::Dash(first, at), b'\\') => on(SetState::LastEscape(first, at), class),
+            (SetState::Dash(first, at) | SetState::LastEscape(first, at), b) if b < first => {
+                Err(Refusal::BackwardRange.at(at))
+            }
+            (SetState::Dash(first, _) | SetState::LastEscape(first, _), b) => {
+                on(SetState::Between, class.with_range(first, b))
+            }
         }
     }
-    Err(Refused {
-        refusal: Refusal::UnfinishedSet,
-        place: bracket,
-    })
-}
 
-// The set whose `[` stands at a place.
-pub(crate) fn read_set(text: &[u8], bracket: usize) -> Result<Atom<ByteClass>, Refused>
-    requires { bracket < length text.now }
-    ensures { result ≡ set_from (drop (bracket + 1) text.now) bracket }
-{
-    let inside = bracket + 1;
-    if inside < text.len() && text[inside] == b'^' {
-        read_items(text, bracket, inside + 1, true)
-    } else {
-        read_items(text, bracket, inside, false)
+    fn others(items: ByteClass) -> ByteClass {
+        items.complement()
     }
 }

@@ -1,13 +1,13 @@
 use Rattle.std.proofs.Common.{◌≡◌, ℕ, zero, suc, ◌+◌, ◌*◌, ◌/◌, ◌%◌, ◌^◌, ◌<◌, ◌≤◌, Bool, false, ◌||◌, ◌⊎◌, ◌&&◌, true, ltb, List, length, get_or, set, replicate, refl, sym, ap, ◌∙◌, inl, inr, arith}
-use Rattle.std.specs.Prelude.{◌==◌, ◌≢◌}
-use Rattle.std.proofs.lemmas.Bool.{cases_eq, cases_lt, ne_eqb}
+use Rattle.std.specs.Prelude.{◌==◌, ◌≢◌, nat_lt}
+use Rattle.std.proofs.lemmas.Bool.{cases_eq, cases_lt, ne_eqb, lt-ltb}
 use Rattle.std.proofs.lemmas.Bool.Decides.{nat_tests}
 use Rattle.sets.specs.Laws.{Added}
 use Rattle.std.proofs.lemmas.List.{ext_get_or, get_or-replicate, get_or-set_same, get_or-set_other, get_or_past, length-replicate}
 use Rattle.std.proofs.lemmas.Nat.{div-mul-add, mod-mul-add}
 use Rattle.sets.specs.Sets.{member, gathered}
 use Rattle.sets.specs.declared.number_set.NumberSet.{NumberSet}
-use Rattle.sets.specs.NumberSets.{in_words, has, words_of, set_of, Words}
+use Rattle.sets.specs.NumberSets.{in_words, has, no_number, words_of, set_of, Gathered, Words}
 use Rattle.sets.proofs.Bits.{member-gathered, gathered-lt, sets_same, bit-none}
 
 length-words_of : (f : ℕ → Bool) (i w : ℕ) → length (words_of f i w) ≡ w
@@ -55,22 +55,25 @@ module _ (w : ℕ) where
   pub set_of-same : (f g : ℕ → Bool) → ((n : ℕ) → n < 64 * w → f n ≡ g n) → set_of {w = w} f ≡ set_of g
   set_of-same f g same = is_set_of (set_of f) g (set_of-words f) (λ n h. set_of-has f n h ∙ same n h)
 
--- Words without a number.
-abbrev zeros : ℕ → List ℕ
-zeros w = replicate w 0
-
-get_or_zeros : (w i : ℕ) → get_or (zeros w) i 0 ≡ 0
+-- The set without a number has none.
+get_or_zeros : (w i : ℕ) → ◌≡◌ {A = ℕ} (get_or (replicate w 0) i 0) 0
 get_or_zeros w i = go (cases_lt i w)
   where
-    go : (i < w) ⊎ (w ≤ i) → get_or (zeros w) i 0 ≡ 0
+    go : (i < w) ⊎ (w ≤ i) → ◌≡◌ {A = ℕ} (get_or (replicate w 0) i 0) 0
     go (inl h) = get_or-replicate w i 0 0 h
-    go (inr h) = get_or_past (zeros w) i 0 (let l = length-replicate {A = ℕ} w 0 in omega arith)
+    go (inr h) = get_or_past (replicate w 0) i 0 (let l = length-replicate {A = ℕ} w 0 in omega arith)
 
-pub no_number : (w : ℕ) → record { words = zeros w } ≡ set_of {w = w} (λ n. false)
-no_number w =
-    is_set_of w (record { words = zeros w }) (λ n. false)
-    (record { many = length-replicate w 0; small = λ i. let e = get_or_zeros w i in omega arith })
-    (λ n h. rw (get_or_zeros w (n / 64)) (ap (λ b. b == 1) (bit-none (n % 64))))
+pub has-no_number : (w n : ℕ) → has (no_number {w = w}) n ≡ false
+has-no_number w n = rw (get_or_zeros w (n / 64)) (rw (bit-none (n % 64)))
+
+pub no_number-words : (w : ℕ) → Words (no_number {w = w})
+no_number-words w = record { many = length-replicate w 0; small = λ i. let e = get_or_zeros w i in omega arith }
+
+-- A test of all the numbers for which there are words.
+pub gathered_all : (w count : ℕ) (answers : ℕ → Bool → Type 0) (s : NumberSet w) (f : ℕ → Bool) → 64 * w ≤ count → Gathered answers count s
+    → ((n : ℕ) (r : Bool) → n < count → answers n r → r ≡ f n) → s ≡ set_of f
+gathered_all w count answers s f h gathers told =
+    gathers f told ∙ set_of-same w (λ n. nat_lt n count && f n) f (λ n l. rw (lt-ltb n count (omega arith)))
 
 same_number : (x n : ℕ) → x / 64 ≡ n / 64 → (x % 64 == n % 64) ≡ (x == n)
 same_number x n e = grind (arith, nat_tests)

@@ -1,4 +1,4 @@
-use Rattle.std.specs.Prelude.{◌≡◌, ℕ, zero, suc, ◌+◌, ◌*◌, ◌/◌, ◌%◌, ◌^◌, ◌<◌, Bool, ◌&&◌, List, [], ◌∷◌, length, nat_lt, slice_index}
+use Rattle.std.specs.Prelude.{◌≡◌, ℕ, zero, suc, ◌+◌, ◌*◌, ◌/◌, ◌%◌, ◌^◌, ◌<◌, Bool, ◌&&◌, List, [], ◌∷◌, length, nat_lt, replicate, slice_index}
 use Rattle.sets.specs.Sets.{member, gathered}
 use Rattle.sets.specs.declared.number_set.NumberSet.{NumberSet}
 
@@ -8,6 +8,10 @@ in_words words n = member (slice_index words (n / 64)) (n % 64)
 
 abbrev pub has : {w : ℕ} → NumberSet w → ℕ → Bool
 has s n = in_words s.words n
+
+-- The set without a number: all zeros.
+abbrev pub no_number : {w : ℕ} → NumberSet w
+no_number {w} = record { words = replicate w 0 }
 
 -- So many words from word i on, with the numbers that pass a test.
 unfoldable pub words_of : (ℕ → Bool) → ℕ → ℕ → List ℕ

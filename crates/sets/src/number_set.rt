@@ -1,5 +1,5 @@
-ghost use Rattle.std.specs.Prelude.{◌≡◌, ℕ, false};
-ghost use Rattle.sets.specs.NumberSets.{has, set_of, Gathered};
+ghost use Rattle.std.specs.Prelude.{◌≡◌};
+ghost use Rattle.sets.specs.NumberSets.{has, no_number, Gathered};
 
 use crate::{contains, insert};
 
@@ -12,7 +12,7 @@ pub struct NumberSet<const WORDS: usize> {
 impl<const WORDS: usize> NumberSet<WORDS> {
     // No number.
     pub fn empty() -> Self
-        ensures { result ≡ set_of (λ n. false) }
+        ensures { result ≡ no_number }
     {
         NumberSet { words: [0; WORDS] }
     }

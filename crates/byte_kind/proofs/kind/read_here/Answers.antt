@@ -1,11 +1,11 @@
-use Rattle.std.proofs.Common.{sym, ap, ◌∙◌, arith}
+use Rattle.std.proofs.Common.{Err, sym, ap, ◌∙◌, arith}
 use Rattle.byte_kind.specs.Class.{others}
 use Rattle.byte_kind.specs.Law.{reading_beyond}
 use Rattle.byte_kind.proofs.Runs.{at_dot, at_escape, at_set, at_operator, at_ordinary}
 use Rattle.byte_kind.proofs.kind.read_here.Goals as goal
 
 pub returns-then-place-text : goal.returns-then-place-text
-returns-then-place-text c = sym (reading_beyond _ _ c.if-place-text.true)
+returns-then-place-text c = ap Err c.at.ensures ∙ sym (reading_beyond _ _ c.if-place-text.true)
 
 pub returns-in-46 : goal.returns-in-46
 returns-in-46 c =
@@ -19,7 +19,8 @@ returns-in-91 c = c.read_set.ensures ∙ at_set _ _ c.if-place-text.false c.in-9
 
 pub returns-in_default : goal.returns-in_default
 returns-in_default c =
-    at_operator _ _ c.if-place-text.false (λ e. omega arith) (λ e. omega arith) (λ e. omega arith)
+    ap Err c.at-in_default.ensures
+    ∙ at_operator _ _ c.if-place-text.false (λ e. omega arith) (λ e. omega arith) (λ e. omega arith)
     (sym c.if-is_operator.ensures.value)
 
 pub returns-in_default-2 : goal.returns-in_default-2

@@ -1,9 +1,10 @@
-use Rattle.std.proofs.Common.{not, arith}
+use Rattle.std.proofs.Common.{ℕ, ap, not, arith, rules}
+use Rattle.sets.proofs.NumberSets.{gathered_all, set_of-has}
 use Rattle.byte_kind.specs.Class.{has_byte}
-use Rattle.byte_kind.specs.Classes.{other_words, has_by}
 use Rattle.byte_kind.proofs.class.ByteClass.complement.Goals as goal
 
 pub returns : goal.returns
 returns c =
-    let e = other_words c.args.self (omega arith) (omega arith) (omega arith) (omega arith) in
-    record { value = e; members = has_by _ (λ b. not (has_byte c.args.self b)) e }
+    let f = λ (b : ℕ). not (has_byte c.args.self b) in
+    let e = gathered_all 4 256 _ c.gathered.result f (omega arith) c.gathered.ensures (λ n r l k. search rules) in
+    record { value = ap (λ s. record { bytes = s }) e; members = λ b h. rw e (set_of-has 4 f b h) }
