@@ -1,16 +1,16 @@
-use Rattle.std.specs.Prelude.{ℕ, ◌^◌, ◌<◌, Bool, true, not, ◌||◌, ◌==◌}
-use Rattle.sets.specs.Sets.{member, gathered}
+use Rattle.std.specs.Prelude.{◌≡◌, ℕ, ◌<◌, ◌≤◌, Bool, true, false, not, ◌&&◌, ◌||◌, ◌==◌, nat_lt}
+use Rattle.sets.specs.NumberSets.{has, no_number, set_of, Words}
 use Rattle.rounds.specs.declared.symbol.RoundUnit.{RoundUnit}
 use Rattle.rounds.specs.declared.class.RoundClass.{RoundClass}
 use Rattle.rounds.specs.Symbols.{in_unit}
 
--- Round n is bit n of the word.
+-- Whether a class has the round of a number.
 abbrev pub has_round : RoundClass → ℕ → Bool
-has_round c n = member c.members n
+has_round c n = has c.rounds n
 
 -- The class of the rounds that pass a check of their numbers.
-unfoldable pub class_of : (ℕ → Bool) → RoundClass
-class_of f = record { members = gathered f 9 }
+abbrev pub class_of : (ℕ → Bool) → RoundClass
+class_of f = record { rounds = set_of (λ n. nat_lt n 9 && f n) }
 
 -- A class with one round added.
 abbrev pub with_round : RoundClass → ℕ → RoundClass
@@ -26,11 +26,12 @@ others c = class_of (λ n. not (has_round c n))
 
 -- The class without a round, all zeros, and that of all nine.
 abbrev pub empty_class : RoundClass
-empty_class = record { members = 0 }
+empty_class = record { rounds = no_number }
 
 abbrev pub full_class : RoundClass
 full_class = class_of (λ n. true)
 
 -- A class of the nine rounds and of nothing else: two such that have the same rounds are equal.
-abbrev pub Nine : RoundClass → Type 0
-Nine c = c.members < 2 ^ 9
+pub record Nine (c : RoundClass) : Type 0 where
+  pub words : Words c.rounds
+  pub no_more : (n : ℕ) → 9 ≤ n → n < 64 → has_round c n ≡ false

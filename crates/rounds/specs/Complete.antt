@@ -1,33 +1,32 @@
-use Rattle.std.specs.Prelude.{◌≡◌, ℕ, ◌+◌, ◌-◌, ◌<◌, ◌≤◌, Bool, true, false, not, ◌||◌, List, [], ◌∷◌, length, Ok, Result, ◌≢◌}
+use Rattle.std.specs.Prelude.{◌≡◌, ℕ, ◌+◌, ◌-◌, ◌<◌, ◌≤◌, Bool, true, false, not, ◌||◌, List, [], ◌∷◌, length, Ok, Result, ◌≢◌, Some, None}
 use Rattle.std.proofs.Math.Path.{refl, ap}
 use Rattle.std.proofs.Common.{sym, ◌∙◌, subst, arith}
 use Rattle.std.proofs.lemmas.Bool.{ne_eqb}
 use Rattle.sets.proofs.Bools.{or_false, or_swap}
-use Rattle.sets.proofs.Bits.{bit-none}
-use Rattle.sets.specs.Sets.{bit}
 use Rattle.kinds.specs.declared.Atom.{Atom}
 use Rattle.kinds.specs.declared.Refused.{Refused}
 use Rattle.kinds.specs.declared.Refusal.{Refusal}
 use Rattle.kinds.specs.declared.Refusal.TheVariants.{NoAtom, UnfinishedSet, EmptySet}
 use Rattle.kinds.specs.Atoms.{refused_at, no_atom_at}
-use Rattle.kinds.specs.Language.{Leads, caret, straight}
+use Rattle.kinds.specs.Language.{Leads}
 use Rattle.kinds.proofs.Language as language
+use Rattle.kinds.proofs.Language.{leads_shorter}
 use Rattle.rounds.specs.declared.symbol.Side.{Side}
 use Rattle.rounds.specs.declared.symbol.Side.TheVariants.{White, Black, Unplayed}
 use Rattle.rounds.specs.declared.symbol.Outcome.{Outcome}
 use Rattle.rounds.specs.declared.symbol.Outcome.TheVariants.{Win, Draw, Loss}
 use Rattle.rounds.specs.declared.symbol.RoundUnit.{RoundUnit}
-use Rattle.rounds.specs.declared.symbol.RoundUnit.TheVariants.{Whole, Narrowed}
 use Rattle.rounds.specs.declared.class.RoundClass.{RoundClass}
 use Rattle.rounds.specs.declared.set.SetState.{SetState}
 use Rattle.rounds.specs.declared.set.SetState.TheVariants.{Start, Between, Letter as LetterState}
-use Rattle.rounds.specs.declared.set.Turn.TheVariants.{NoUnitHere}
-use Rattle.rounds.specs.Symbols.{in_unit}
-use Rattle.rounds.specs.Class.{has_round, with_unit, empty_class, full_class, Nine}
-use Rattle.rounds.specs.Reading.{turn_of, whole_class, after_turn, run_set, set_from, unit_atom, unit_from, atom_from}
+use Rattle.rounds.specs.Symbols.{on_any_side, on_side, in_unit}
+use Rattle.rounds.specs.Class.{has_round, with_unit, others, empty_class, full_class, Nine}
+use Rattle.kinds.specs.Sets.{run_set}
+use Rattle.kinds.proofs.Sets.{leads_run}
+use Rattle.rounds.specs.Reading.{outcome_of_letter, side_of_letter, none_so_far, turn_of, whole_class, set_from, unit_atom, unit_from, atom_from}
 use Rattle.rounds.specs.Language.{Letter, win, draw, loss, Narrowing, white, black, unplayed, NoLetter, NoNarrowing, Spelled, narrowed, whole, Units, none, more, Shape, only, in_units, admitted_by, set_shape, Written, dot, unit, set, Faulty, ended, no_atom, no_unit, cut_set, no_units, Exact}
-use Rattle.rounds.specs.Classes.{class_of-nine, class_of-has}
-use Rattle.rounds.specs.Runs.{set_straight, atom_none}
+use Rattle.rounds.specs.Classes.{class_of-nine, class_of-has, empty-nine, empty-has}
+use Rattle.rounds.specs.Runs.{atom_none}
 
 -- The reading follows the language: what is written is read so, and each fault is refused as it is.
 
@@ -47,15 +46,12 @@ units_nine : (us : List RoundUnit) (c : RoundClass) → Nine c → Nine (with_un
 units_nine [] c h = h
 units_nine (u ∷ us) c h = units_nine us (with_unit c u) (class_of-nine (λ n. in_unit u n || has_round c n))
 
-empty_has : (n : ℕ) → has_round empty_class n ≡ false
-empty_has n = let z = bit-none n in ne_eqb (bit 0 n) 1 (λ e. omega arith)
-
 from_empty : (us : List RoundUnit) (n : ℕ) → n < 9 → has_round (with_units empty_class us) n ≡ in_units us n
-from_empty us n h = units_has us empty_class n h ∙ ap (λ t. in_units us n || t) (empty_has n) ∙ or_false (in_units us n)
+from_empty us n h = units_has us empty_class n h ∙ ap (λ t. in_units us n || t) (empty-has n) ∙ or_false (in_units us n)
 
 whole_set_nine : (negated : Bool) (us : List RoundUnit) → Nine (whole_class negated (with_units empty_class us))
 whole_set_nine true us = class_of-nine (λ n. not (has_round (with_units empty_class us) n))
-whole_set_nine false us = units_nine us empty_class (omega arith)
+whole_set_nine false us = units_nine us empty_class empty-nine
 
 whole_set_has : (negated : Bool) (us : List RoundUnit) (n : ℕ) → n < 9
     → has_round (whole_class negated (with_units empty_class us)) n ≡ admitted_by (set_shape negated us) n
@@ -82,17 +78,12 @@ not_draw ne e = ne Draw (subst (λ m. Letter m Draw) (sym e) draw)
 not_loss : {b : ℕ} → NoLetter b → b ≢ 76
 not_loss ne e = ne Loss (subst (λ m. Letter m Loss) (sym e) loss)
 
--- One turn.
-no_unit_turn : {b : ℕ} (c : RoundClass) → NoLetter b → (b ≢ 93) → turn_of Between c b ≡ NoUnitHere
-no_unit_turn {b} c ne k = rw (ne_eqb b 93 k, ne_eqb b 87 (not_win ne), ne_eqb b 68 (not_draw ne), ne_eqb b 76 (not_loss ne))
+-- A byte that names nothing.
+no_outcome : {b : ℕ} → NoLetter b → outcome_of_letter b ≡ None
+no_outcome {b} ne = rw (ne_eqb b 87 (not_win ne), ne_eqb b 68 (not_draw ne), ne_eqb b 76 (not_loss ne))
 
-no_unit_start : {b : ℕ} (c : RoundClass) → NoLetter b → (b ≢ 93) → turn_of Start c b ≡ NoUnitHere
-no_unit_start {b} c ne k = rw (ne_eqb b 93 k, ne_eqb b 87 (not_win ne), ne_eqb b 68 (not_draw ne), ne_eqb b 76 (not_loss ne))
-
--- A letter that is not narrowed is as good as a unit that is read.
-settled_turn : {b : ℕ} (o : Outcome) (c : RoundClass) → ((s : Side) → Narrowing b s → ⊥)
-    → turn_of (LetterState o) c b ≡ turn_of Between (with_unit c (Whole o)) b
-settled_turn {b} o c ne = rw (ne_eqb b 119 (not_white ne), ne_eqb b 98 (not_black ne), ne_eqb b 117 (not_unplayed ne))
+no_side : {b : ℕ} → ((s : Side) → Narrowing b s → ⊥) → side_of_letter b ≡ None
+no_side {b} ne = rw (ne_eqb b 119 (not_white ne), ne_eqb b 98 (not_black ne), ne_eqb b 117 (not_unplayed ne))
 
 -- States in which a unit may begin that nothing stands before.
 abbrev Fresh : SetState → Type 0
@@ -102,7 +93,7 @@ Fresh (LetterState o) = ⊥
 
 module _ (negated : Bool) (bracket : ℕ) where
   abbrev run : List ℕ → ℕ → SetState → RoundClass → Result (Atom RoundClass) Refused
-  run t place state c = run_set negated bracket t place state c
+  run t place state c = run_set none_so_far turn_of others negated bracket t place (record { state = state; class = c })
 
   letter_run : {b : ℕ} {o : Outcome} → Letter b o → (rest : List ℕ) (place : ℕ) (state : SetState) (c : RoundClass) → Fresh state
       → run (b ∷ rest) place state c ≡ run rest (place + 1) (LetterState o) c
@@ -116,18 +107,17 @@ module _ (negated : Bool) (bracket : ℕ) where
   letter_run l rest place (LetterState o) c f = absurd f
 
   side_run : {b : ℕ} {s : Side} → Narrowing b s → (rest : List ℕ) (place : ℕ) (o : Outcome) (c : RoundClass)
-      → run (b ∷ rest) place (LetterState o) c ≡ run rest (place + 1) Between (with_unit c (Narrowed o s))
+      → run (b ∷ rest) place (LetterState o) c ≡ run rest (place + 1) Between (with_unit c (on_side o s))
   unfolding run_set
   side_run white rest place o c = refl
   side_run black rest place o c = refl
   side_run unplayed rest place o c = refl
 
   settled_run : (t : List ℕ) → NoNarrowing t → (place : ℕ) (o : Outcome) (c : RoundClass)
-      → run t place (LetterState o) c ≡ run t place Between (with_unit c (Whole o))
+      → run t place (LetterState o) c ≡ run t place Between (with_unit c (on_any_side o))
   unfolding run_set
   settled_run [] ne place o c = refl
-  settled_run (b ∷ rest) ne place o c =
-      ap (λ turn. after_turn negated bracket (λ next d. run_set negated bracket rest (place + 1) next d) place turn) (settled_turn o c ne)
+  settled_run (b ∷ rest) ne place o c = rw (no_side ne)
 
   -- The place behind what has been read, and the run from there.
   record Reaches (t : List ℕ) (place : ℕ) (state : SetState) (c : RoundClass) (rest : List ℕ) (d : RoundClass) : Type 0 where
@@ -191,26 +181,18 @@ module _ (negated : Bool) (bracket : ℕ) where
   no_unit_run : {b : ℕ} (rest : List ℕ) (place : ℕ) (c : RoundClass) → NoLetter b → (b ≢ 93)
       → run (b ∷ rest) place Between c ≡ no_atom_at place
   unfolding run_set
-  no_unit_run rest place c ne k =
-      ap (λ turn. after_turn negated bracket (λ next d. run_set negated bracket rest (place + 1) next d) place turn) (no_unit_turn c ne k)
+  no_unit_run {b} rest place c ne k = rw (ne_eqb b 93 k) (rw (no_outcome ne))
 
   no_unit_start_run : {b : ℕ} (rest : List ℕ) (place : ℕ) (c : RoundClass) → NoLetter b → (b ≢ 93)
       → run (b ∷ rest) place Start c ≡ no_atom_at place
   unfolding run_set
-  no_unit_start_run rest place c ne k =
-      ap (λ turn. after_turn negated bracket (λ next d. run_set negated bracket rest (place + 1) next d) place turn) (no_unit_start c ne k)
+  no_unit_start_run {b} rest place c ne k = rw (ne_eqb b 93 k) (rw (no_outcome ne))
 
 -- Behind the `[`.
-record LeadsTo (inside : List ℕ) (i : ℕ) (negated : Bool) (start : List ℕ) : Type 0 where
-  from : ℕ
-  onward : i < from
-  length-kept : from + length start ≡ i + 1 + length inside
-  same_run : set_from inside i ≡ run_set negated i start from Start empty_class
-
-leads_to : {inside start : List ℕ} {negated : Bool} → Leads inside negated start → (i : ℕ) → LeadsTo inside i negated start
-leads_to caret i = record { from = i + 2; onward = omega arith; length-kept = omega arith; same_run = refl }
-leads_to (straight {text = t} ne) i =
-    record { from = i + 1; onward = omega arith; length-kept = refl; same_run = set_straight t i ne }
+abbrev lead_of : {inside start : List ℕ} {negated : Bool} → Leads inside negated start → (i : ℕ)
+    → (p : ℕ) × (p + length start ≡ i + 1 + length inside)
+    × (set_from inside i ≡ run_set none_so_far turn_of others negated i start p none_so_far)
+lead_of l i = leads_run none_so_far turn_of others l i
 
 -- What is read where an atom is written.
 abbrev Accepted : List ℕ → List ℕ → Shape → ℕ → Type 0
@@ -221,33 +203,33 @@ letter_atom win rest i = refl
 letter_atom draw rest i = refl
 letter_atom loss rest i = refl
 
-side_unit : {b : ℕ} {s : Side} → Narrowing b s → (rest : List ℕ) (o : Outcome) → unit_from o (b ∷ rest) ≡ unit_atom (Narrowed o s) 2
+side_unit : {b : ℕ} {s : Side} → Narrowing b s → (rest : List ℕ) (o : Outcome) → unit_from o (b ∷ rest) ≡ unit_atom o (Some s)
 side_unit white rest o = refl
 side_unit black rest o = refl
 side_unit unplayed rest o = refl
 
-settled_unit : (t : List ℕ) → NoNarrowing t → (o : Outcome) → unit_from o t ≡ unit_atom (Whole o) 1
+settled_unit : (t : List ℕ) → NoNarrowing t → (o : Outcome) → unit_from o t ≡ unit_atom o None
 settled_unit [] ne o = refl
-settled_unit (b ∷ rest) ne o = rw (ne_eqb b 119 (not_white ne), ne_eqb b 98 (not_black ne), ne_eqb b 117 (not_unplayed ne))
+settled_unit (b ∷ rest) ne o = rw (no_side ne)
 
 unit_exact : (u : RoundUnit) (n : ℕ) → n < 9 → has_round (with_unit empty_class u) n ≡ in_unit u n
 unit_exact u n h =
-    class_of-has (λ m. in_unit u m || has_round empty_class m) n h ∙ ap (λ t. in_unit u n || t) (empty_has n) ∙ or_false (in_unit u n)
+    class_of-has (λ m. in_unit u m || has_round empty_class m) n h ∙ ap (λ t. in_unit u n || t) (empty-has n) ∙ or_false (in_unit u n)
 
 unit_accepted : {t rest : List ℕ} {u : RoundUnit} → Spelled t u rest → (i : ℕ) → Accepted t rest (only u) i
 unit_accepted (narrowed {c = b} {outcome = o} {side = s} {rest = rest} l m) i =
     record {
-      atom = unit_atom (Narrowed o s) 2;
+      atom = unit_atom o (Some s);
       is = letter_atom l (b ∷ rest) i ∙ ap (λ a. Ok a) (side_unit m rest o);
       long = omega arith;
-      exact = record { nine = class_of-nine (λ n. in_unit (Narrowed o s) n || has_round empty_class n); members = unit_exact (Narrowed o s) };
+      exact = record { nine = class_of-nine (λ n. in_unit (on_side o s) n || has_round empty_class n); members = unit_exact (on_side o s) };
     }
 unit_accepted (whole {outcome = o} {rest = rest} l ne) i =
     record {
-      atom = unit_atom (Whole o) 1;
+      atom = unit_atom o None;
       is = letter_atom l rest i ∙ ap (λ a. Ok a) (settled_unit rest ne o);
       long = omega arith;
-      exact = record { nine = class_of-nine (λ n. in_unit (Whole o) n || has_round empty_class n); members = unit_exact (Whole o) };
+      exact = record { nine = class_of-nine (λ n. in_unit (on_any_side o) n || has_round empty_class n); members = unit_exact (on_any_side o) };
     }
 
 pub accepted : (t rest : List ℕ) (shape : Shape) → Written t shape rest → (i : ℕ) → Accepted t rest shape i
@@ -260,12 +242,12 @@ accepted t rest shape dot i =
     }
 accepted t rest shape (unit s) i = unit_accepted s i
 accepted t rest shape (set {negated = negated} {u = u} {units = units} l us) i =
-    let lead = leads_to l i in
-    let all = start_reaches negated i us lead.from in
+    let lead = lead_of l i in
+    let all = start_reaches negated i us lead.0 in
     record {
       atom = record { class = whole_class negated (with_units empty_class (u ∷ units)); length = all.behind + 1 - i };
-      is = lead.same_run ∙ all.same_run ∙ close_run negated i rest all.behind (with_units empty_class (u ∷ units));
-      long = omega arith;
+      is = lead.2 ∙ all.same_run ∙ close_run negated i rest all.behind (with_units empty_class (u ∷ units));
+      long = let a = leads_shorter l in omega arith;
       exact = record { nine = whole_set_nine negated (u ∷ units); members = whole_set_has negated (u ∷ units) };
     }
 
@@ -276,32 +258,32 @@ Turned t here why i = language.ReadErr Written Faulty Exact atom_from t here why
 no_unit_refused : {inside start rest : List ℕ} {negated : Bool} {units : List RoundUnit} {b : ℕ} → Units start units (b ∷ rest)
     → Leads inside negated start → NoLetter b → (b ≢ 93) → (i : ℕ) → Turned (91 ∷ inside) (b ∷ rest) NoAtom i
 no_unit_refused {rest = rest} {negated = negated} none l ne k i =
-    let lead = leads_to l i in
+    let lead = lead_of l i in
     record {
-      place = lead.from;
-      is = lead.same_run ∙ no_unit_start_run negated i rest lead.from empty_class ne k;
+      place = lead.0;
+      is = lead.2 ∙ no_unit_start_run negated i rest lead.0 empty_class ne k;
       placed = omega arith;
     }
 no_unit_refused {rest = rest} {negated = negated} (more {unit = u} {units = units} s us) l ne k i =
-    let lead = leads_to l i in
-    let all = start_reaches negated i (more s us) lead.from in
+    let lead = lead_of l i in
+    let all = start_reaches negated i (more s us) lead.0 in
     record {
       place = all.behind;
-      is = lead.same_run ∙ all.same_run ∙ no_unit_run negated i rest all.behind (with_units empty_class (u ∷ units)) ne k;
+      is = lead.2 ∙ all.same_run ∙ no_unit_run negated i rest all.behind (with_units empty_class (u ∷ units)) ne k;
       placed = omega arith;
     }
 
 cut_refused : {inside start : List ℕ} {negated : Bool} {units : List RoundUnit} → Units start units [] → Leads inside negated start → (i : ℕ)
     → Turned (91 ∷ inside) (91 ∷ inside) UnfinishedSet i
 cut_refused {negated = negated} none l i =
-    let lead = leads_to l i in
-    record { place = i; is = lead.same_run ∙ cut_run negated i lead.from Start empty_class; placed = refl }
+    let lead = lead_of l i in
+    record { place = i; is = lead.2 ∙ cut_run negated i lead.0 Start empty_class; placed = refl }
 cut_refused {negated = negated} (more {unit = u} {units = units} s us) l i =
-    let lead = leads_to l i in
-    let all = start_reaches negated i (more s us) lead.from in
+    let lead = lead_of l i in
+    let all = start_reaches negated i (more s us) lead.0 in
     record {
       place = i;
-      is = lead.same_run ∙ all.same_run ∙ cut_run negated i all.behind Between (with_units empty_class (u ∷ units));
+      is = lead.2 ∙ all.same_run ∙ cut_run negated i all.behind Between (with_units empty_class (u ∷ units));
       placed = refl;
     }
 
@@ -318,5 +300,5 @@ refused t here why (no_atom {b = b} {rest = rest} ne) i =
 refused t here why (no_unit l us ne k) i = no_unit_refused us l ne k i
 refused t here why (cut_set l us) i = cut_refused us l i
 refused t here why (no_units {rest = rest} {negated = negated} l) i =
-    let lead = leads_to l i in
-    record { place = i; is = lead.same_run ∙ no_units_run negated i rest lead.from empty_class; placed = refl }
+    let lead = lead_of l i in
+    record { place = i; is = lead.2 ∙ no_units_run negated i rest lead.0 empty_class; placed = refl }

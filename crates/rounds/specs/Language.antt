@@ -10,9 +10,8 @@ use Rattle.rounds.specs.declared.symbol.Side.TheVariants.{White, Black, Unplayed
 use Rattle.rounds.specs.declared.symbol.Outcome.{Outcome}
 use Rattle.rounds.specs.declared.symbol.Outcome.TheVariants.{Win, Draw, Loss}
 use Rattle.rounds.specs.declared.symbol.RoundUnit.{RoundUnit}
-use Rattle.rounds.specs.declared.symbol.RoundUnit.TheVariants.{Whole, Narrowed}
 use Rattle.rounds.specs.declared.class.RoundClass.{RoundClass}
-use Rattle.rounds.specs.Symbols.{in_unit}
+use Rattle.rounds.specs.Symbols.{on_any_side, on_side, in_unit}
 use Rattle.rounds.specs.Class.{has_round, Nine}
 
 -- The atoms of the language of rounds, as relations between a text, what it begins with, and the rest
@@ -41,9 +40,9 @@ NoNarrowing (b ∷ rest) = (side : Side) → Narrowing b side → ⊥
 -- A unit: a letter with the side's letter behind it, or a letter with none.
 pub data Spelled : List ℕ → RoundUnit → List ℕ → Type 0 where
   narrowed : {b c : ℕ} {outcome : Outcome} {side : Side} {rest : List ℕ} → Letter b outcome → Narrowing c side
-      → Spelled (b ∷ c ∷ rest) (Narrowed outcome side) rest
+      → Spelled (b ∷ c ∷ rest) (on_side outcome side) rest
   whole : {b : ℕ} {outcome : Outcome} {rest : List ℕ} → Letter b outcome → NoNarrowing rest
-      → Spelled (b ∷ rest) (Whole outcome) rest
+      → Spelled (b ∷ rest) (on_any_side outcome) rest
 
 -- `Units text units rest`: the text begins with these units and goes on with the rest.
 pub data Units : List ℕ → List RoundUnit → List ℕ → Type 0 where

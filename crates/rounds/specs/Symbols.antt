@@ -1,11 +1,11 @@
-use Rattle.std.specs.Prelude.{ℕ, ◌+◌, ◌*◌, ◌/◌, ◌%◌, Bool, cond, ◌&&◌, ◌==◌}
+use Rattle.std.specs.Prelude.{◌≡◌, ℕ, ◌+◌, ◌*◌, ◌/◌, ◌%◌, ◌<◌, ◌≤◌, Bool, true, cond, ◌&&◌, Some, None, Option, Result, MatchResult, ◌==◌}
 use Rattle.rounds.specs.declared.symbol.Side.{Side}
 use Rattle.rounds.specs.declared.symbol.Side.TheVariants.{White, Black, Unplayed}
 use Rattle.rounds.specs.declared.symbol.Outcome.{Outcome}
 use Rattle.rounds.specs.declared.symbol.Outcome.TheVariants.{Win, Draw, Loss}
 use Rattle.rounds.specs.declared.symbol.Round.{Round}
 use Rattle.rounds.specs.declared.symbol.RoundUnit.{RoundUnit}
-use Rattle.rounds.specs.declared.symbol.RoundUnit.TheVariants.{Whole, Narrowed}
+use Rattle.rounds.specs.declared.symbol.UnknownRound.{UnknownRound}
 
 -- The number of each side, of each outcome, and of a round, which is below nine.
 abbrev pub side_number : Side → ℕ
@@ -31,8 +31,22 @@ outcome_of n = cond (n == 0) Win (cond (n == 1) Draw Loss)
 abbrev pub round_of : ℕ → Round
 round_of n = record { side = side_of (n / 3); outcome = outcome_of (n % 3) }
 
+-- What turning a number into a round gives: the round of that number, or the number back if there is none.
+abbrev pub IsRoundOf : ℕ → Result Round UnknownRound → Type 0
+IsRoundOf n r = MatchResult r (λ round. (n < 9) × (round ≡ round_of n)) (λ e. (9 ≤ n) × (e.0 ≡ n))
+
+-- A unit that names an outcome alone, and one that names a side too.
+abbrev pub on_any_side : Outcome → RoundUnit
+on_any_side outcome = record { outcome = outcome; side = None }
+
+abbrev pub on_side : Outcome → Side → RoundUnit
+on_side outcome side = record { outcome = outcome; side = Some side }
+
 -- Whether a unit admits the round of a number: its outcome is the unit's, and its side is the unit's
 -- where the unit names one.
+abbrev pub is_on : Option Side → ℕ → Bool
+is_on None n = true
+is_on (Some side) n = n / 3 == side_number side
+
 abbrev pub in_unit : RoundUnit → ℕ → Bool
-in_unit (Whole outcome) n = n % 3 == outcome_number outcome
-in_unit (Narrowed outcome side) n = n % 3 == outcome_number outcome && n / 3 == side_number side
+in_unit unit n = n % 3 == outcome_number unit.outcome && is_on unit.side n

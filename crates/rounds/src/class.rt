@@ -2,16 +2,13 @@ ghost use Rattle.std.specs.Prelude.{◌≡◌, ℕ, ◌<◌, not, ◌||◌};
 ghost use Rattle.rounds.specs.Symbols.{round_number, in_unit};
 ghost use Rattle.rounds.specs.Class.{has_round, with_round, with_unit, others, empty_class, full_class};
 
-use crate::symbol::{Round, RoundUnit, Side};
-use sets::{contains, insert};
+use crate::symbol::{Round, RoundUnit};
+use sets::NumberSet;
 
-// The bits of the nine rounds.
-const NINE: u64 = 511;
-
-// A set of rounds: round n is bit n of the word.
+// A set of rounds, each by its number.
 #[derive(Clone, Copy, PartialEq, Eq, Debug)]
 pub struct RoundClass {
-    members: u64,
+    rounds: NumberSet<1>,
 }
 
 impl RoundClass {
@@ -19,27 +16,32 @@ impl RoundClass {
     pub fn empty() -> RoundClass
         ensures { result ≡ empty_class }
     {
-        RoundClass { members: 0 }
+        RoundClass {
+            rounds: NumberSet::empty(),
+        }
     }
 
     // All nine.
     pub fn full() -> RoundClass
         ensures { result ≡ full_class }
     {
-        RoundClass { members: NINE }
+        RoundClass {
+            rounds: NumberSet::gathered(9, |_| true),
+        }
     }
 
     pub fn has(self, n: usize) -> bool
         ensures { result ≡ has_round self n }
     {
-        contains(self.members, n)
+        self.rounds.has(n)
     }
 
     pub fn with_round(self, round: Round) -> RoundClass
         ensures { result ≡ with_round self (round_number round) }
     {
+        let added = usize::from(round);
         RoundClass {
-            members: insert(self.members & NINE, round.number()),
+            rounds: NumberSet::gathered(9, |n| n == added || self.rounds.has(n)),
         }
     }
 
@@ -48,22 +50,8 @@ impl RoundClass {
         ensures value { result ≡ with_unit self unit }
         ensures members { (n : ℕ) → n < 9 → has_round result n ≡ (in_unit unit n || has_round self n) }
     {
-        match unit {
-            RoundUnit::Whole(outcome) => {
-                let white = self.with_round(Round {
-                    side: Side::White,
-                    outcome,
-                });
-                let played = white.with_round(Round {
-                    side: Side::Black,
-                    outcome,
-                });
-                played.with_round(Round {
-                    side: Side::Unplayed,
-                    outcome,
-                })
-            }
-            RoundUnit::Narrowed(outcome, side) => self.with_round(Round { side, outcome }),
+        RoundClass {
+            rounds: NumberSet::gathered(9, |n| unit.admits(n) || self.rounds.has(n)),
         }
     }
 
@@ -73,7 +61,7 @@ impl RoundClass {
         ensures members { (n : ℕ) → n < 9 → has_round result n ≡ not (has_round self n) }
     {
         RoundClass {
-            members: !self.members & NINE,
+            rounds: NumberSet::gathered(9, |n| !self.rounds.has(n)),
         }
     }
 }

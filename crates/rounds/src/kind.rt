@@ -54,11 +54,11 @@ impl Kind for Rounds {
     }
 
     fn number_of(s: Round) -> usize {
-        s.number()
+        usize::from(s)
     }
 
     fn symbol_of(n: usize) -> Option<Round> {
-        Round::of_number(n)
+        Round::try_from(n).ok()
     }
 
     fn cleared_class() -> RoundClass {
@@ -66,7 +66,7 @@ impl Kind for Rounds {
     }
 
     fn admitted(c: RoundClass, s: Round) -> bool {
-        c.has(s.number())
+        c.has(usize::from(s))
     }
 
     // The answer is exactly what the language says, and no other answer is.

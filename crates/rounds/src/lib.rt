@@ -6,9 +6,10 @@
 mod atom;
 mod class;
 mod kind;
+mod letter;
 mod set;
 mod symbol;
 
 pub use class::RoundClass;
 pub use kind::Rounds;
-pub use symbol::{Outcome, Round, RoundUnit, Side};
+pub use symbol::{Outcome, Round, RoundUnit, Side, UnknownRound};

@@ -1,12 +1,19 @@
-ghost use Rattle.std.specs.Prelude.{◌≡◌, ◌+◌, ◌<◌, ◌≤◌, length, drop};
-ghost use Rattle.kinds.specs.Atoms.{refused_at};
-ghost use Rattle.rounds.specs.Class.{empty_class};
-ghost use Rattle.rounds.specs.Reading.{units_so_far, turn_of, run_set, set_from};
-ghost use Rattle.rounds.specs.declared.set.SetState.TheVariants.{Start as StartState};
+ghost use Rattle.std.specs.Prelude.{◌≡◌};
+ghost use Rattle.rounds.specs.Class.{others};
+ghost use Rattle.rounds.specs.Reading.{on, none_so_far, units_so_far, begin_unit, turn_of};
 
 use crate::class::RoundClass;
-use crate::symbol::{Outcome, RoundUnit, Side};
-use kinds::{Atom, Refusal, Refused};
+use crate::letter::{outcome_of_letter, side_of_letter};
+use crate::symbol::{Outcome, RoundUnit};
+use kinds::{Refusal, Refused, SetMachine};
+use std::ops::ControlFlow;
+
+// The reading of a set: how far it has come, and the class of the units so far.
+#[derive(Clone, Copy)]
+pub(crate) struct Units {
+    state: SetState,
+    class: RoundClass,
+}
 
 // How far the reading of a set has come.
 #[derive(Clone, Copy)]
@@ -19,101 +26,77 @@ pub(crate) enum SetState {
     Letter(Outcome),
 }
 
-// What one byte does to the reading of a set.
-#[derive(Clone, Copy)]
-pub(crate) enum Turn {
-    On(SetState, RoundClass),
-    Closed(RoundClass),
-    NoUnits,
-    NoUnitHere,
+// The set goes on.
+fn on(state: SetState, class: RoundClass) -> Result<ControlFlow<RoundClass, Units>, Refused>
+    ensures { result ≡ on state class }
+{
+    Ok(ControlFlow::Continue(Units { state, class }))
 }
 
-// One byte of a set, in a state with the units so far.
-fn advance(state: SetState, class: RoundClass, byte: u8) -> Turn
-    ensures { result ≡ turn_of state class byte }
+// A byte that begins a unit, or nothing.
+fn begin_unit(
+    class: RoundClass,
+    place: usize,
+    byte: u8,
+) -> Result<ControlFlow<RoundClass, Units>, Refused>
+    ensures { result ≡ begin_unit class place byte }
 {
-    match (state, byte) {
-        (SetState::Start, b']') => Turn::NoUnits,
-        (_, b']') => Turn::Closed(units_so_far(state, class)),
-        (SetState::Letter(outcome), b'w') => Turn::On(
-            SetState::Between,
-            class.with_unit(RoundUnit::Narrowed(outcome, Side::White)),
-        ),
-        (SetState::Letter(outcome), b'b') => Turn::On(
-            SetState::Between,
-            class.with_unit(RoundUnit::Narrowed(outcome, Side::Black)),
-        ),
-        (SetState::Letter(outcome), b'u') => Turn::On(
-            SetState::Between,
-            class.with_unit(RoundUnit::Narrowed(outcome, Side::Unplayed)),
-        ),
-        (_, b'W') => Turn::On(SetState::Letter(Outcome::Win), units_so_far(state, class)),
-        (_, b'D') => Turn::On(SetState::Letter(Outcome::Draw), units_so_far(state, class)),
-        (_, b'L') => Turn::On(SetState::Letter(Outcome::Loss), units_so_far(state, class)),
-        (_, _) => Turn::NoUnitHere,
+    match outcome_of_letter(byte) {
+        Some(outcome) => on(SetState::Letter(outcome), class),
+        None => Err(Refusal::NoAtom.at(place)),
     }
 }
 
 // The units so far, where a letter behind which no side was named is a unit of its own.
-fn units_so_far(state: SetState, class: RoundClass) -> RoundClass
-    ensures { result ≡ units_so_far state class }
+fn units_so_far(units: Units) -> RoundClass
+    ensures { result ≡ units_so_far units.state units.class }
 {
-    match state {
-        SetState::Letter(outcome) => class.with_unit(RoundUnit::Whole(outcome)),
-        SetState::Start | SetState::Between => class,
+    match units.state {
+        SetState::Letter(outcome) => units.class.with_unit(RoundUnit {
+            outcome,
+            side: None,
+        }),
+        SetState::Start | SetState::Between => units.class,
     }
 }
 
-// The set whose `[` is at a place of the text.
-pub(crate) fn read_set(text: &[u8], bracket: usize) -> Result<Atom<RoundClass>, Refused>
-    requires { bracket < length text.now }
-    ensures { result ≡ set_from (drop (bracket + 1) text.now) bracket }
-{
-    let start = bracket + 1;
-    if start < text.len() && text[start] == b'^' {
-        read_units(text, bracket, start + 1, true)
-    } else {
-        read_units(text, bracket, start, false)
-    }
-}
+impl SetMachine for Units {
+    type Class = RoundClass;
 
-// The units from a place on, and the `]` behind them.
-fn read_units(
-    text: &[u8],
-    bracket: usize,
-    from: usize,
-    negated: bool,
-) -> Result<Atom<RoundClass>, Refused>
-    requires { (bracket < from) × (from ≤ length text.now) }
-    ensures { result ≡ run_set negated bracket (drop from text.now) from StartState empty_class }
-{
-    let mut state = SetState::Start;
-    let mut class = RoundClass::empty();
-    let mut at = from;
-    while at < text.len() {
-        match advance(state, class, text[at]) {
-            Turn::On(next, with_unit) => {
-                state = next;
-                class = with_unit;
-            }
-            Turn::Closed(units) => {
-                let class = if negated { units.complement() } else { units };
-                return Ok(Atom {
-                    class,
-                    length: at + 1 - bracket,
-                });
-            }
-            Turn::NoUnits => return refused(Refusal::EmptySet, bracket),
-            Turn::NoUnitHere => return refused(Refusal::NoAtom, at),
+    ghost start = { none_so_far };
+
+    ghost turn = { turn_of };
+
+    ghost others = { others };
+
+    fn start() -> Units {
+        Units {
+            state: SetState::Start,
+            class: RoundClass::empty(),
         }
-        at += 1;
     }
-    refused(Refusal::UnfinishedSet, bracket)
-}
 
-// What a reader answers where it reads no atom.
-pub(crate) fn refused(refusal: Refusal, place: usize) -> Result<Atom<RoundClass>, Refused>
-    ensures { result ≡ refused_at refusal place }
-{
-    Err(Refused { refusal, place })
+    fn advance(
+        self,
+        bracket: usize,
+        place: usize,
+        byte: u8,
+    ) -> Result<ControlFlow<RoundClass, Units>, Refused> {
+        match (self.state, byte, side_of_letter(byte)) {
+            (SetState::Start, b']', _) => Err(Refusal::EmptySet.at(bracket)),
+            (_, b']', _) => Ok(ControlFlow::Break(units_so_far(self))),
+            (SetState::Letter(outcome), _, Some(side)) => {
+                let narrowed = RoundUnit {
+                    outcome,
+                    side: Some(side),
+                };
+                on(SetState::Between, self.class.with_unit(narrowed))
+            }
+            (_, _, _) => begin_unit(units_so_far(self), place, byte),
+        }
+    }
+
+    fn others(units: RoundClass) -> RoundClass {
+        units.complement()
+    }
 }

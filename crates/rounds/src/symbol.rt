@@ -1,5 +1,5 @@
-ghost use Rattle.std.specs.Prelude.{◌≡◌, ◌<◌, if◌then◌else◌, Some, None, nat_lt};
-ghost use Rattle.rounds.specs.Symbols.{side_number, outcome_number, round_number, side_of, outcome_of, round_of};
+ghost use Rattle.std.specs.Prelude.{◌≡◌, ◌<◌};
+ghost use Rattle.rounds.specs.Symbols.{side_number, outcome_number, round_number, side_of, outcome_of, in_unit, IsRoundOf};
 
 // On which side a round was played, if it was played.
 #[derive(Clone, Copy, PartialEq, Eq, Debug)]
@@ -25,55 +25,66 @@ pub struct Round {
 // What a letter of the language says of rounds: an outcome on any side, or, with the side's letter
 // behind it, on that side.
 #[derive(Clone, Copy, PartialEq, Eq, Debug)]
-pub enum RoundUnit {
-    Whole(Outcome),
-    Narrowed(Outcome, Side),
+pub struct RoundUnit {
+    pub outcome: Outcome,
+    pub side: Option<Side>,
 }
 
-impl Side {
-    pub fn number(self) -> usize
-        ensures { result ≡ side_number self }
-    {
-        match self {
-            Side::White => 0,
-            Side::Black => 1,
-            Side::Unplayed => 2,
-        }
+// A number that no round has: it is 9 or more.
+#[derive(Clone, Copy, PartialEq, Eq, Debug)]
+pub struct UnknownRound(pub usize);
+
+impl From<Side> for usize {
+    ghost from_gives = { λ side number. number ≡ side_number side };
+
+    fn from(side: Side) -> usize {
+        side as usize
     }
 }
 
-impl Outcome {
-    pub fn number(self) -> usize
-        ensures { result ≡ outcome_number self }
-    {
-        match self {
-            Outcome::Win => 0,
-            Outcome::Draw => 1,
-            Outcome::Loss => 2,
-        }
+impl From<Outcome> for usize {
+    ghost from_gives = { λ outcome number. number ≡ outcome_number outcome };
+
+    fn from(outcome: Outcome) -> usize {
+        outcome as usize
     }
 }
 
-impl Round {
-    pub fn number(self) -> usize
-        ensures value { result ≡ round_number self }
-        ensures below { result < 9 }
-    {
-        3 * self.side.number() + self.outcome.number()
-    }
+impl From<Round> for usize {
+    ghost from_gives = { λ round number. (number ≡ round_number round) × (number < 9) };
 
-    // The round of a number; from 9 up there is none.
-    pub fn of_number(n: usize) -> Option<Round>
-        ensures { result ≡ (if nat_lt n 9 then Some (round_of n) else None) }
-    {
+    fn from(round: Round) -> usize {
+        3 * usize::from(round.side) + usize::from(round.outcome)
+    }
+}
+
+impl TryFrom<usize> for Round {
+    type Error = UnknownRound;
+
+    ghost try_from_gives = { IsRoundOf };
+
+    fn try_from(n: usize) -> Result<Round, UnknownRound> {
         if n < 9 {
-            Some(Round {
+            Ok(Round {
                 side: side_of(n / 3),
                 outcome: outcome_of(n % 3),
             })
         } else {
-            None
+            Err(UnknownRound(n))
         }
+    }
+}
+
+impl RoundUnit {
+    // Whether the round of a number is one of the unit's.
+    pub(crate) fn admits(self, n: usize) -> bool
+        ensures { result ≡ in_unit self n }
+    {
+        n % 3 == usize::from(self.outcome)
+            && match self.side {
+                None => true,
+                Some(side) => n / 3 == usize::from(side),
+            }
     }
 }
 

@@ -1,8 +1,5 @@
-use Rattle.std.proofs.Common.{refl}
-use Rattle.sets.specs.Sets.{gathered}
-use Rattle.rounds.specs.Class.{class_of}
+use Rattle.std.proofs.Common.{true, ap, rules}
 use Rattle.rounds.proofs.class.RoundClass.full.Goals as goal
 
 pub returns : goal.returns
-unfolding class_of gathered
-returns c = refl
+returns c = ap (λ s. record { rounds = s }) (c.gathered.ensures (λ n. true) (λ n r l k. search rules))

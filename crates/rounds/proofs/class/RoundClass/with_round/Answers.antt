@@ -1,10 +1,10 @@
-use Rattle.std.proofs.Common.{ap, ◌∙◌}
-use Rattle.rounds.specs.Class.{with_round}
-use Rattle.rounds.specs.Classes.{inserted}
+use Rattle.std.proofs.Common.{◌||◌, ap, ◌∙◌, rules}
+use Rattle.std.specs.Prelude.{◌==◌}
+use Rattle.rounds.specs.Class.{has_round, with_round}
 use Rattle.rounds.proofs.class.RoundClass.with_round.Goals as goal
 
 pub returns : goal.returns
 returns c =
-    inserted c.args.self c.number.result c.insert.result c.number.ensures.below c.insert.ensures.value
-    c.insert.ensures.added
-    ∙ ap (λ n. with_round c.args.self n) c.number.ensures.value
+    ap (λ s. record { rounds = s })
+    (c.gathered.ensures (λ n. (n == c.from-added.result) || has_round c.args.self n) (λ n r l k. search rules))
+    ∙ ap (λ n. with_round c.args.self n) c.from-added.ensures.0
