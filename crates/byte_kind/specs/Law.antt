@@ -13,11 +13,12 @@ use Rattle.kinds.proofs.Operators.{operator_is, not_operator, cases_operator}
 use Rattle.sets.proofs.Bools.{or_false, or_swap}
 use Rattle.byte_kind.specs.declared.class.ByteClass.{ByteClass}
 use Rattle.byte_kind.specs.Class.{has_byte, between, ranged, others, empty_class, only_class, Words}
-use Rattle.byte_kind.specs.Reading.{none_so_far, turn_of, whole_class, atom_from, byte_reading}
+use Rattle.byte_kind.specs.Reading.{none_so_far, turn_of, atom_from, byte_reading}
 use Rattle.byte_kind.specs.Language.{Spelled, plain, escaped, Ranges, Item, Items, none, single, range, Cut, at_item, at_escape, at_last, Shape, any, only, in_items, admitted_by, set_shape, Written, dot, escape, set, ordinary, Faulty, ended, operator, cut_escape, cut_set, backward, no_items, Exact, ReadAsWritten}
 use Rattle.sets.proofs.NumberSets.{set_same, set_of-words, set_of-has, has-no_number}
 use Rattle.kinds.proofs.Sets as sets
 use Rattle.byte_kind.specs.Sets.{add_all, closed_run, unfinished_run, backward_run, empty_run}
+use Rattle.kinds.specs.Sets.{whole_class}
 
 -- What the classes have.
 
@@ -44,7 +45,7 @@ has_items : (items : List Item) (b : ℕ) → b < 256 → has_byte (add_all empt
 has_items items b h = has_all items empty_class b h ∙ rw (no_byte b) (or_false (in_items items b))
 
 has_whole : (negated : Bool) (items : List Item) (b : ℕ) → b < 256
-    → has_byte (whole_class negated (add_all empty_class items)) b ≡ admitted_by (set_shape negated items) b
+    → has_byte (whole_class others negated (add_all empty_class items)) b ≡ admitted_by (set_shape negated items) b
 has_whole true items b h = has_others (add_all empty_class items) b h ∙ ap not (has_items items b h)
 has_whole false items b h = has_items items b h
 
@@ -52,7 +53,7 @@ words_all : (items : List Item) (c : ByteClass) → Words c → Words (add_all c
 words_all [] c w = w
 words_all (item ∷ items) c w = words_all items (ranged c item.first item.last) (set_of-words 4 _)
 
-words_whole : (negated : Bool) (item : Item) (items : List Item) → Words (whole_class negated (add_all empty_class (item ∷ items)))
+words_whole : (negated : Bool) (item : Item) (items : List Item) → Words (whole_class others negated (add_all empty_class (item ∷ items)))
 words_whole true item items = set_of-words 4 _
 words_whole false item items = words_all items (ranged empty_class item.first item.last) (set_of-words 4 _)
 
@@ -90,7 +91,7 @@ written_read text rest shape (set {inside = inside} {negated = negated} {item = 
     let p = sets.leads_run none_so_far turn_of others l i in
     let q = closed_run negated i r p.0 empty_class in
     record {
-      atom = record { class = whole_class negated (add_all empty_class (item ∷ items)); length = q.0 - i };
+      atom = record { class = whole_class others negated (add_all empty_class (item ∷ items)); length = q.0 - i };
       is = p.2 ∙ q.2;
       long = let a = leads_shorter l in let b = items_shorter r in omega arith;
       exact = record { words = words_whole negated item items; members = has_whole negated (item ∷ items) };

@@ -1,4 +1,4 @@
-use Rattle.std.specs.Prelude.{ℕ, Bool, cond, List, [], ◌∷◌, drop, Ok, Result, ◌==◌, nat_lt}
+use Rattle.std.specs.Prelude.{ℕ, cond, List, [], ◌∷◌, drop, Ok, Result, ◌==◌, nat_lt}
 use Rattle.kinds.specs.declared.Atom.{Atom}
 use Rattle.kinds.specs.declared.Refused.{Refused}
 use Rattle.kinds.specs.declared.Refusal.TheVariants.{UnfinishedEscape, BackwardRange, EmptySet}
@@ -47,10 +47,6 @@ turn_in (LastEscape first at) c bracket place b = end_range c first at b
 -- The turn that a byte makes, by the places of the `[` and of the byte.
 abbrev pub turn_of : Items → ℕ → ℕ → ℕ → Turn Items ByteClass
 turn_of items bracket place b = turn_in items.state items.class bracket place b
-
--- The class of a whole set.
-abbrev pub whole_class : Bool → ByteClass → ByteClass
-whole_class negated c = cond negated (others c) c
 
 -- Behind the `[` at a place.
 abbrev pub set_from : List ℕ → ℕ → Result (Atom ByteClass) Refused

@@ -11,8 +11,8 @@ use Rattle.byte_kind.specs.declared.class.ByteClass.{ByteClass}
 use Rattle.byte_kind.specs.declared.set.SetState.{SetState}
 use Rattle.byte_kind.specs.declared.set.SetState.TheVariants.{Start, Between, First, Dash}
 use Rattle.byte_kind.specs.Class.{ranged, others}
-use Rattle.kinds.specs.Sets.{run_set}
-use Rattle.byte_kind.specs.Reading.{none_so_far, turn_of, whole_class}
+use Rattle.kinds.specs.Sets.{whole_class, run_set}
+use Rattle.byte_kind.specs.Reading.{none_so_far, turn_of}
 use Rattle.byte_kind.specs.Language.{Spelled, plain, escaped, Ranges, Item, Items, none, single, range, Cut, at_item, at_escape, at_last}
 
 -- The class of the items, added to a class one by one.
@@ -97,7 +97,7 @@ module _ (negated : Bool) (bracket : ℕ) where
   -- A set with items that is closed.
   pub closed_run : {text rest : List ℕ} {item : Item} {items : List Item} → Items text (item ∷ items) (93 ∷ rest)
       → (p : ℕ) (c : ByteClass) → (q : ℕ) × (q + length rest ≡ p + length text)
-      × (run text p Start c ≡ Ok (record { class = whole_class negated (add_all c (item ∷ items)); length = q - bracket }))
+      × (run text p Start c ≡ Ok (record { class = whole_class others negated (add_all c (item ∷ items)); length = q - bracket }))
   unfolding run_set
   closed_run r p c = let g = items_run r p c in (g.0 + 1, omega arith, start_items r p c ∙ g.2)
 

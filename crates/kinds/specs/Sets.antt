@@ -13,12 +13,16 @@ use Rattle.kinds.specs.Atoms.{refused_at}
 abbrev pub Turn : Type 0 → Type 0 → Type 0
 Turn M C = Result (ControlFlow C M) Refused
 
+-- The class of a whole set, by its items and whether `^` leads.
+abbrev pub whole_class : {C : Type 0} → (C → C) → Bool → C → C
+whole_class others negated c = cond negated (others c) c
+
 -- `turn state bracket place byte` is the turn that a byte at a place makes, in a set whose `[` is at the bracket.
-module _ {M C : Type 0} (start : M) (turn : M → ℕ → ℕ → ℕ → Turn M C) (complement : C → C) where
+module _ {M C : Type 0} (start : M) (turn : M → ℕ → ℕ → ℕ → Turn M C) (others : C → C) where
   module _ (negated : Bool) (bracket : ℕ) where
     abbrev pub after_turn : (M → Result (Atom C) Refused) → ℕ → Turn M C → Result (Atom C) Refused
     after_turn go place (Ok (Continue state)) = go state
-    after_turn go place (Ok (Break c)) = Ok (record { class = cond negated (complement c) c; length = place + 1 - bracket })
+    after_turn go place (Ok (Break c)) = Ok (record { class = whole_class others negated c; length = place + 1 - bracket })
     after_turn go place (Err f) = Err f
 
     -- The rest of a set, from a place and a state on.

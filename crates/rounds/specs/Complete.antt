@@ -21,9 +21,9 @@ use Rattle.rounds.specs.declared.set.SetState.{SetState}
 use Rattle.rounds.specs.declared.set.SetState.TheVariants.{Start, Between, Letter as LetterState}
 use Rattle.rounds.specs.Symbols.{on_any_side, on_side, in_unit}
 use Rattle.rounds.specs.Class.{has_round, with_unit, others, empty_class, full_class, Nine}
-use Rattle.kinds.specs.Sets.{run_set}
+use Rattle.kinds.specs.Sets.{whole_class, run_set}
 use Rattle.kinds.proofs.Sets.{leads_run}
-use Rattle.rounds.specs.Reading.{outcome_of_letter, side_of_letter, none_so_far, turn_of, whole_class, set_from, unit_atom, unit_from, atom_from}
+use Rattle.rounds.specs.Reading.{outcome_of_letter, side_of_letter, none_so_far, turn_of, set_from, unit_atom, unit_from, atom_from}
 use Rattle.rounds.specs.Language.{Letter, win, draw, loss, Narrowing, white, black, unplayed, NoLetter, NoNarrowing, Spelled, narrowed, whole, Units, none, more, Shape, only, in_units, admitted_by, set_shape, Written, dot, unit, set, Faulty, ended, no_atom, no_unit, cut_set, no_units, Exact}
 use Rattle.rounds.specs.Classes.{class_of-nine, class_of-has, empty-nine, empty-has}
 use Rattle.rounds.specs.Runs.{atom_none}
@@ -49,12 +49,12 @@ units_nine (u ∷ us) c h = units_nine us (with_unit c u) (class_of-nine (λ n. 
 from_empty : (us : List RoundUnit) (n : ℕ) → n < 9 → has_round (with_units empty_class us) n ≡ in_units us n
 from_empty us n h = units_has us empty_class n h ∙ ap (λ t. in_units us n || t) (empty-has n) ∙ or_false (in_units us n)
 
-whole_set_nine : (negated : Bool) (us : List RoundUnit) → Nine (whole_class negated (with_units empty_class us))
+whole_set_nine : (negated : Bool) (us : List RoundUnit) → Nine (whole_class others negated (with_units empty_class us))
 whole_set_nine true us = class_of-nine (λ n. not (has_round (with_units empty_class us) n))
 whole_set_nine false us = units_nine us empty_class empty-nine
 
 whole_set_has : (negated : Bool) (us : List RoundUnit) (n : ℕ) → n < 9
-    → has_round (whole_class negated (with_units empty_class us)) n ≡ admitted_by (set_shape negated us) n
+    → has_round (whole_class others negated (with_units empty_class us)) n ≡ admitted_by (set_shape negated us) n
 whole_set_has true us n h =
     class_of-has (λ m. not (has_round (with_units empty_class us) m)) n h ∙ ap not (from_empty us n h)
 whole_set_has false us n h = from_empty us n h
@@ -166,7 +166,7 @@ module _ (negated : Bool) (bracket : ℕ) where
       and_then first (units_reach us first.behind (with_unit empty_class u))
 
   close_run : (rest : List ℕ) (place : ℕ) (c : RoundClass)
-      → run (93 ∷ rest) place Between c ≡ Ok (record { class = whole_class negated c; length = place + 1 - bracket })
+      → run (93 ∷ rest) place Between c ≡ Ok (record { class = whole_class others negated c; length = place + 1 - bracket })
   unfolding run_set
   close_run rest place c = refl
 
@@ -245,7 +245,7 @@ accepted t rest shape (set {negated = negated} {u = u} {units = units} l us) i =
     let lead = lead_of l i in
     let all = start_reaches negated i us lead.0 in
     record {
-      atom = record { class = whole_class negated (with_units empty_class (u ∷ units)); length = all.behind + 1 - i };
+      atom = record { class = whole_class others negated (with_units empty_class (u ∷ units)); length = all.behind + 1 - i };
       is = lead.2 ∙ all.same_run ∙ close_run negated i rest all.behind (with_units empty_class (u ∷ units));
       long = let a = leads_shorter l in omega arith;
       exact = record { nine = whole_set_nine negated (u ∷ units); members = whole_set_has negated (u ∷ units) };

@@ -1,4 +1,4 @@
-use Rattle.std.specs.Prelude.{ℕ, Bool, cond, List, [], ◌∷◌, drop, Some, None, Option, Ok, Result, ◌==◌}
+use Rattle.std.specs.Prelude.{ℕ, cond, List, [], ◌∷◌, drop, Some, None, Option, Ok, Result, ◌==◌}
 use Rattle.std.specs.declared.ops.ControlFlow.TheVariants.{Continue, Break}
 use Rattle.kinds.specs.declared.Atom.{Atom}
 use Rattle.kinds.specs.declared.Refused.{Refused}
@@ -64,10 +64,6 @@ turn_in (Letter outcome) c bracket place b =
 -- The turn that a byte makes, by the places of the `[` and of the byte.
 abbrev pub turn_of : Units → ℕ → ℕ → ℕ → Turn Units RoundClass
 turn_of units bracket place b = turn_in units.state units.class bracket place b
-
--- The class of a whole set.
-abbrev pub whole_class : Bool → RoundClass → RoundClass
-whole_class negated c = cond negated (others c) c
 
 -- Behind the `[` at a place.
 abbrev pub set_from : List ℕ → ℕ → Result (Atom RoundClass) Refused
