@@ -2,7 +2,7 @@
 // memory. The reader keeps its open groups in one.
 #![tactic(auto)]
 
-ghost use Rattle.std.specs.Prelude.{◌≡◌, ◌+◌, ◌-◌, ◌<◌, ◌≤◌, [], ◌∷◌, length, replicate, Some, None, Ok, Err, slice_set};
+ghost use Rattle.std.specs.Prelude.{◌≡◌, ◌+◌, ◌-◌, ◌<◌, ◌≤◌, [], ◌∷◌, ◌↔◌, length, replicate, Some, None, IsOk, OnOk, IfErr, slice_set};
 ghost use Rattle.stack.specs.Lent.{Same, cleared_from};
 
 // The first `used` slots hold the stack, the last of them its top.
@@ -36,8 +36,11 @@ impl<'a, T: Copy> Stack<'a, T> {
     // Puts an element on top, if a slot is left for it; otherwise gives it back.
     pub fn push(&mut self, item: T) -> Result<(), T>
         ensures lent { Same (lent self.new) (lent self.old) }
-        ensures room { elim result [ Ok _ ↦ count self.old < length (memory self.old) | Err back ↦ (length (memory self.old) ≤ count self.old) × (back ≡ item) × (self.new ≡ self.old) ] }
-        ensures pushed { elim result [ Ok _ ↦ (stacked self.new ≡ item ∷ stacked self.old) × (memory self.new ≡ slice_set (memory self.old) (count self.old) item) × (count self.new ≡ count self.old + 1) | Err _ ↦ Unit {0} ] }
+        ensures room { IsOk result ↔ count self.old < length (memory self.old) }
+        ensures pushed { OnOk result (stacked self.new ≡ item ∷ stacked self.old) }
+        ensures written { OnOk result (memory self.new ≡ slice_set (memory self.old) (count self.old) item) }
+        ensures count { OnOk result (count self.new ≡ count self.old + 1) }
+        ensures full { IfErr result (λ back. (back ≡ item) × (self.new ≡ self.old)) }
     {
         if self.used < self.slots.len() {
             self.slots[self.used] = item;
