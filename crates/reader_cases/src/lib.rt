@@ -658,7 +658,7 @@ mod tests {
         }
     }
 
-    // Node i as reading leaves it: a wrong length leaves the lent memory as it was, and every other
+    // Node i as reading leaves it: refusals 1 and 2 leave the lent memory as it was, and every other
     // refusal clears it.
     fn node_left(wanted: Result<Tree, Fault>, i: usize) -> Node {
         match wanted {
