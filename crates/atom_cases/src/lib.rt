@@ -8,22 +8,20 @@ mod tests {
     use kinds::Kind;
     use rounds::Rounds;
 
-    // What is read at a place of a text.
-    #[derive(Clone, Copy)]
-    enum Outcome {
-        // an atom of so many bytes
-        Length(usize),
-        // a refusal's number and place
-        Refused(u8, usize),
+    // A refusal's number and place.
+    #[derive(Clone, Copy, PartialEq, Eq, Debug)]
+    struct Fault {
+        number: u8,
+        place: usize,
     }
 
-    // The text, the place, what is read there, and the numbers of the symbols that are admitted, as
-    // ranges with both ends.
+    // The text, the place, the length of the atom that is read there or its fault, and the numbers of
+    // the symbols that are admitted, as ranges with both ends.
     #[derive(Clone, Copy)]
     struct Case {
         text: &'static [u8],
         place: usize,
-        outcome: Outcome,
+        length: Result<usize, Fault>,
         admits: &'static [(usize, usize)],
     }
 
@@ -31,7 +29,7 @@ mod tests {
         Case {
             text,
             place: 0,
-            outcome: Outcome::Length(length),
+            length: Ok(length),
             admits,
         }
     }
@@ -40,54 +38,38 @@ mod tests {
         Case {
             text,
             place: 0,
-            outcome: Outcome::Refused(number, at),
+            length: Err(Fault { number, place: at }),
             admits: &[],
         }
     }
 
     fn within(ranges: &[(usize, usize)], n: usize) -> bool {
-        for (first, last) in ranges {
-            if *first <= n && n <= *last {
-                return true;
-            }
-        }
-        false
+        ranges
+            .iter()
+            .any(|(first, last)| (*first..=*last).contains(&n))
     }
 
     fn admits_exactly<K: Kind>(class: K::Class, ranges: &[(usize, usize)]) -> bool {
-        for n in 0..K::symbols() {
-            let Some(symbol) = K::symbol_of(n) else {
-                return false;
-            };
-            if K::admitted(class, symbol) != within(ranges, n) {
-                return false;
-            }
-        }
-        true
+        (0..K::symbols()).all(|n| {
+            K::symbol_of(n).is_some_and(|symbol| K::admitted(class, symbol) == within(ranges, n))
+        })
     }
 
-    fn holds<K: Kind>(case: Case) -> bool {
-        let read = K::read_atom(case.text, case.place);
-        match case.outcome {
-            Outcome::Length(length) => match read {
-                Ok(atom) => atom.length == length && admits_exactly::<K>(atom.class, case.admits),
-                Err(_) => false,
-            },
-            Outcome::Refused(number, place) => match read {
-                Ok(_) => false,
-                Err(refused) => refused.refusal.number() == number && refused.place == place,
-            },
+    fn holds<K: Kind>(case: &Case) -> bool {
+        let read = K::read_atom(case.text, case.place).map_err(|refused| Fault {
+            number: u8::from(refused.refusal),
+            place: refused.place,
+        });
+        match read {
+            Ok(atom) => case.length == Ok(atom.length)
+                && admits_exactly::<K>(atom.class, case.admits),
+            Err(fault) => case.length == Err(fault),
         }
     }
 
     // The first line of a table that does not hold, counted from 0.
     fn first_wrong<K: Kind>(cases: &[Case]) -> Option<usize> {
-        for (i, case) in cases.iter().enumerate() {
-            if !holds::<K>(*case) {
-                return Some(i);
-            }
-        }
-        None
+        cases.iter().position(|case| !holds::<K>(case))
     }
 
     #[test]

@@ -1,12 +1,12 @@
-use std::{env, io};
+use std::error::Error;
+use std::str::FromStr;
+use std::{env, fmt, io};
 
 // What the words behind the program's name ask for.
 #[derive(Drop)]
 pub(crate) enum Command {
     Usage,
     Pattern(KindName, String),
-    // nothing that is known: what was expected
-    Unclear(&'static str),
 }
 
 #[derive(Clone, Copy)]
@@ -15,31 +15,69 @@ pub(crate) enum KindName {
     Rounds,
 }
 
+// Why the words ask for nothing that is known. Each prints what was expected.
+#[derive(Debug, Drop)]
+pub(crate) enum Unclear {
+    // they could not be read
+    Unread(io::Error),
+    UnknownCommand,
+    WrongWords,
+    UnknownKind(UnknownKind),
+}
+
+// A word that names no kind.
+#[derive(Clone, Copy, Debug)]
+pub(crate) struct UnknownKind;
+
 // Reads the command from the program's arguments.
-pub(crate) fn read_command(rt: &HostRuntime) -> io::Result<Command> {
-    let mut words = env::args(rt)?;
-    let _name = words.next();
+pub(crate) fn read_command(rt: &HostRuntime) -> Result<Command, Unclear> {
+    let mut words = env::args(rt).map_err(Unclear::Unread)?;
+    let _program = words.next();
     let Some(name) = words.next() else {
         return Ok(Command::Usage);
     };
     if name.as_str() != "pattern" {
-        return Ok(Command::Unclear(
-            "prizes: the command is expected to be `pattern`; without arguments, prizes explains itself",
-        ));
+        return Err(Unclear::UnknownCommand);
     }
     let (Some(kind), Some(text), None) = (words.next(), words.next(), words.next()) else {
-        return Ok(Command::Unclear("prizes: expected `prizes pattern KIND TEXT`"));
+        return Err(Unclear::WrongWords);
     };
-    match kind_named(kind.as_str()) {
-        Some(kind) => Ok(Command::Pattern(kind, text)),
-        None => Ok(Command::Unclear("prizes: the kind is expected to be `bytes` or `rounds`")),
+    let kind = kind.as_str().parse().map_err(Unclear::UnknownKind)?;
+    Ok(Command::Pattern(kind, text))
+}
+
+impl FromStr for KindName {
+    type Err = UnknownKind;
+
+    fn from_str(name: &str) -> Result<KindName, UnknownKind> {
+        match name {
+            "bytes" => Ok(KindName::Bytes),
+            "rounds" => Ok(KindName::Rounds),
+            _ => Err(UnknownKind),
+        }
     }
 }
 
-fn kind_named(name: &str) -> Option<KindName> {
-    match name {
-        "bytes" => Some(KindName::Bytes),
-        "rounds" => Some(KindName::Rounds),
-        _ => None,
+impl fmt::Display for UnknownKind {
+    fn fmt<W: fmt::Write>(&self, f: &mut fmt::Formatter<W>) -> fmt::Result {
+        f.write_str("the kind is expected to be `bytes` or `rounds`")
     }
 }
+
+impl fmt::Display for Unclear {
+    fn fmt<W: fmt::Write>(&self, f: &mut fmt::Formatter<W>) -> fmt::Result {
+        f.write_str("prizes: ")?;
+        match self {
+            Unclear::Unread(_) => f.write_str("the arguments are expected to be UTF-8 text"),
+            Unclear::UnknownCommand => f.write_str(
+                "the command is expected to be `pattern`; without arguments, prizes explains itself",
+            ),
+            Unclear::WrongWords => f.write_str("expected `prizes pattern KIND TEXT`"),
+            Unclear::UnknownKind(unknown) => write!(f, "{unknown}"),
+        }
+    }
+}
+
+impl Error for UnknownKind {}
+
+impl Error for Unclear {}

@@ -1,78 +1,63 @@
-use crate::shown::Shown;
-use crate::words::sentence;
+use crate::shown::{Shown, Symbols};
 use kinds::{Refusal, Refused};
-use std::alloc::{AllocError, Global};
+use std::alloc::AllocError;
+use std::fmt;
 
-// What is told of a text: a line for each atom, or up to the fault that has it refused.
+// Why a text is not explained to its end.
 #[derive(Drop)]
-pub(crate) struct Explanation {
-    pub lines: String,
-    pub refused: bool,
+pub(crate) enum Unexplained {
+    Refused(Refused),
+    NoMemory(AllocError),
 }
 
-// Explains a text that is one atom after another.
-pub(crate) fn explained<K: Shown>(heap: Global, text: &str) -> Result<Explanation, AllocError> {
+impl From<Refused> for Unexplained {
+    fn from(refused: Refused) -> Unexplained {
+        Unexplained::Refused(refused)
+    }
+}
+
+impl From<AllocError> for Unexplained {
+    fn from(error: AllocError) -> Unexplained {
+        Unexplained::NoMemory(error)
+    }
+}
+
+// Explains a text that is one atom after another, by a line for each atom. The lines of the atoms
+// before a fault are left.
+pub(crate) fn explained<K: Shown>(text: &str, lines: &mut String) -> Result<(), Unexplained> {
     let bytes = text.as_bytes();
-    let mut lines = String::new(heap);
     if bytes.is_empty() || bytes.len() > 1024 {
-        let refused = Refused {
-            refusal: Refusal::TextLength,
-            place: 0,
-        };
-        tell_refused(heap, text, refused, &mut lines)?;
-        return Ok(Explanation {
-            lines,
-            refused: true,
-        });
+        return Err(Refusal::TextLength.at(0).into());
     }
     let mut place = 0;
+    // a while: each step is as long as the atom that it reads
     while place < bytes.len() {
-        match K::read_atom(bytes, place) {
-            Ok(atom) => {
-                let length = atom.length;
-                let unit = if length == 1 { "byte" } else { "bytes" };
-                lines.push_str(format!(in heap;
-                    "atom at {place}, {length} {unit}: admits"
-                )?.as_str())?;
-                K::show(heap, atom.class, &mut lines)?;
-                lines.push('\n')?;
-                place += length;
-            }
-            Err(refused) => {
-                tell_refused(heap, text, refused, &mut lines)?;
-                return Ok(Explanation {
-                    lines,
-                    refused: true,
-                });
-            }
-        }
+        let atom = K::read_atom(bytes, place)?;
+        let length = atom.length;
+        let unit = if length == 1 { "byte" } else { "bytes" };
+        let symbols = Symbols::<K>(atom.class);
+        writeln!(lines, "atom at {place}, {length} {unit}: admits{symbols}")?;
+        place += length;
     }
-    Ok(Explanation {
-        lines,
-        refused: false,
-    })
+    Ok(())
 }
 
-// The text, a caret under the place, and what is wrong there.
-fn tell_refused(
-    heap: Global,
-    text: &str,
-    refused: Refused,
-    lines: &mut String,
-) -> Result<(), AllocError> {
-    for shown in text.chars() {
-        lines.push(if shown.is_ascii_control() { '?' } else { shown })?;
-    }
-    lines.push('\n')?;
-    for byte in text.bytes().take(refused.place) {
-        if begins_character(byte) {
-            lines.push(' ')?;
+// A text with its fault: the text on one line, a caret under the place, and what is wrong there.
+#[derive(Clone, Copy)]
+pub(crate) struct Pointed<'a> {
+    pub text: &'a str,
+    pub refused: Refused,
+}
+
+impl fmt::Display for Pointed<'_> {
+    fn fmt<W: fmt::Write>(&self, f: &mut fmt::Formatter<W>) -> fmt::Result {
+        for shown in self.text.chars() {
+            f.write_char(if shown.is_ascii_control() { '?' } else { shown })?;
         }
+        let before = self.text.bytes().take(self.refused.place);
+        let column = before.filter(|byte| begins_character(*byte)).count();
+        writeln!(f, "\n{:column$}^\n{}", "", self.refused)
     }
-    let number = refused.refusal.number();
-    let place = refused.place;
-    let why = sentence(refused.refusal);
-    lines.push_str(format!(in heap; "^\nrefused {number} at {place}: {why}\n")?.as_str())
 }
 
 // Whether a byte of UTF-8 begins a character, and so a column.
@@ -85,6 +70,7 @@ mod tests {
     use super::*;
     use byte_kind::Bytes;
     use rounds::Rounds;
+    use std::alloc::Global;
     use std::test::Fail;
 
     // A text with what is to be told of it.
@@ -98,14 +84,25 @@ mod tests {
         Expected { text, told }
     }
 
+    // The lines of a text, and behind them its fault if it is refused.
+    fn told<K: Shown>(heap: Global, text: &str) -> Result<String, AllocError> {
+        let mut lines = String::new(heap);
+        match explained::<K>(text, &mut lines) {
+            Ok(()) => {}
+            Err(Unexplained::Refused(refused)) => write!(lines, "{}", Pointed { text, refused })?,
+            Err(Unexplained::NoMemory(error)) => return Err(error),
+        }
+        Ok(lines)
+    }
+
     // The first line of a table that is told otherwise, counted from 0.
     fn first_wrong<K: Shown>(
         heap: Global,
         table: &[Expected],
     ) -> Result<Option<usize>, AllocError> {
+        // a for: what is told can fail for want of memory
         for (i, line) in table.iter().enumerate() {
-            let told = explained::<K>(heap, line.text)?;
-            if told.lines.as_str() != line.told {
+            if told::<K>(heap, line.text)?.as_str() != line.told {
                 return Ok(Some(i));
             }
         }

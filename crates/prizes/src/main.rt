@@ -4,13 +4,13 @@
 mod command;
 mod explain;
 mod shown;
-mod words;
 
-use crate::command::{Command, KindName, read_command};
-use crate::explain::explained;
+use crate::command::{Command, KindName, Unclear, read_command};
+use crate::explain::{Pointed, Unexplained, explained};
 use anyhow::anyhow;
 use byte_kind::Bytes;
 use rounds::Rounds;
+use std::alloc::Global;
 
 const USAGE: &str = "usage: prizes pattern KIND TEXT
 
@@ -23,33 +23,32 @@ KIND  bytes   symbols are bytes, as in the moves of a game file
 ";
 
 fn main(rt: HostRuntime) -> anyhow::Result<()> {
-    let command = match read_command(&rt) {
-        Ok(command) => command,
-        Err(fault) => {
-            rt.eprintln("prizes: the arguments are expected to be UTF-8 text")?;
-            return Err(fault.into());
+    match read_command(&rt) {
+        Ok(Command::Usage) => Ok(rt.print(USAGE)?),
+        Ok(Command::Pattern(kind, text)) => tell(&rt, rt.alloc(), kind, text.as_str()),
+        Err(unclear) => {
+            eprintln!(rt; "{unclear}")?;
+            Err(match unclear {
+                Unclear::Unread(error) => error.into(),
+                other => other.into(),
+            })
         }
+    }
+}
+
+// Prints what can be told of a text; a text that is refused is an error.
+fn tell(rt: &impl Print, heap: Global, kind: KindName, text: &str) -> anyhow::Result<()> {
+    let mut lines = String::new(heap);
+    let told = match kind {
+        KindName::Bytes => explained::<Bytes>(text, &mut lines),
+        KindName::Rounds => explained::<Rounds>(text, &mut lines),
     };
-    match command {
-        Command::Usage => {
-            rt.print(USAGE)?;
-            Ok(())
+    match told {
+        Ok(()) => Ok(rt.print(lines.as_str())?),
+        Err(Unexplained::Refused(refused)) => {
+            print!(rt; "{}{}", lines.as_str(), Pointed { text, refused })?;
+            Err(anyhow!("the text is refused"))
         }
-        Command::Pattern(kind, text) => {
-            let told = match kind {
-                KindName::Bytes => explained::<Bytes>(rt.alloc(), text.as_str())?,
-                KindName::Rounds => explained::<Rounds>(rt.alloc(), text.as_str())?,
-            };
-            rt.print(told.lines.as_str())?;
-            if told.refused {
-                Err(anyhow!("the text is refused"))
-            } else {
-                Ok(())
-            }
-        }
-        Command::Unclear(expected) => {
-            rt.eprintln(expected)?;
-            Err(anyhow!(expected))
-        }
+        Err(Unexplained::NoMemory(error)) => Err(error.into()),
     }
 }

@@ -4,27 +4,33 @@ ghost use Rattle.prizes.specs.Runs.{RunEnd};
 
 use byte_kind::{ByteClass, Bytes};
 use kinds::Kind;
-use rounds::{Outcome, Round, RoundClass, Rounds, Side};
-use std::alloc::{AllocError, Global};
+use rounds::{Round, RoundClass, Rounds};
+use std::fmt;
 
 // A kind whose classes can be shown to a person.
 pub(crate) trait Shown: Kind {
-    // The symbols that a class admits, with a blank before each.
-    fn show(heap: Global, class: Self::Class, out: &mut String) -> Result<(), AllocError>;
+    // Writes the symbols that a class admits, with a blank before each.
+    fn fmt_class<W: fmt::Write>(class: Self::Class, f: &mut fmt::Formatter<W>) -> fmt::Result;
+}
+
+// The symbols of a class, as the kind shows them.
+#[derive(Drop)]
+pub(crate) struct Symbols<K: Shown>(pub K::Class);
+
+impl<K: Shown> fmt::Display for Symbols<K> {
+    fn fmt<W: fmt::Write>(&self, f: &mut fmt::Formatter<W>) -> fmt::Result {
+        K::fmt_class(self.0, f)
+    }
 }
 
 impl Shown for Bytes {
     // Bytes as runs, each by its first and last byte.
-    fn show(heap: Global, class: ByteClass, out: &mut String) -> Result<(), AllocError> {
-        for first in 0..=255u8 {
-            if begins_run(class, first) {
-                let last = run_end(class, first);
-                out.push(' ')?;
-                show_byte(heap, first, out)?;
-                if first < last {
-                    out.push('-')?;
-                    show_byte(heap, last, out)?;
-                }
+    fn fmt_class<W: fmt::Write>(class: ByteClass, f: &mut fmt::Formatter<W>) -> fmt::Result {
+        for first in (0..=255u8).filter(|byte| begins_run(class, *byte)) {
+            let last = run_end(class, first);
+            write!(f, " {}", ByteName(first))?;
+            if first < last {
+                write!(f, "-{}", ByteName(last))?;
             }
         }
         Ok(())
@@ -42,51 +48,33 @@ fn begins_run(class: ByteClass, byte: u8) -> bool
 fn run_end(class: ByteClass, first: u8) -> u8
     ensures { RunEnd class first result }
 {
-    let mut last = first;
-    while last < 255 && class.has(last + 1) {
-        last += 1;
-    }
-    last
+    (first..255)
+        .find(|byte| !class.has(*byte + 1))
+        .unwrap_or(255)
 }
 
 // A byte as a character where it is one that prints, else by its value.
-fn show_byte(heap: Global, byte: u8, out: &mut String) -> Result<(), AllocError> {
-    if byte > b' ' && byte < 127 {
-        let shown = char::from(byte);
-        out.push_str(format!(in heap; "'{shown}'")?.as_str())
-    } else {
-        out.push_str(format!(in heap; "0x{byte:02x}")?.as_str())
+#[derive(Clone, Copy)]
+struct ByteName(u8);
+
+impl fmt::Display for ByteName {
+    fn fmt<W: fmt::Write>(&self, f: &mut fmt::Formatter<W>) -> fmt::Result {
+        let byte = self.0;
+        if byte.is_ascii_graphic() {
+            write!(f, "'{}'", char::from(byte))
+        } else {
+            write!(f, "0x{byte:02x}")
+        }
     }
 }
 
 impl Shown for Rounds {
     // Rounds as units, in the order of their numbers.
-    fn show(_heap: Global, class: RoundClass, out: &mut String) -> Result<(), AllocError> {
-        for number in 0..9 {
-            if class.has(number) {
-                if let Some(round) = Round::of_number(number) {
-                    out.push(' ')?;
-                    out.push(outcome_letter(round.outcome))?;
-                    out.push(side_letter(round.side))?;
-                }
-            }
+    fn fmt_class<W: fmt::Write>(class: RoundClass, f: &mut fmt::Formatter<W>) -> fmt::Result {
+        let members = (0..9).filter(|number| class.has(*number));
+        for round in members.filter_map(Round::of_number) {
+            write!(f, " {round}")?;
         }
         Ok(())
-    }
-}
-
-fn outcome_letter(outcome: Outcome) -> char {
-    match outcome {
-        Outcome::Win => 'W',
-        Outcome::Draw => 'D',
-        Outcome::Loss => 'L',
-    }
-}
-
-fn side_letter(side: Side) -> char {
-    match side {
-        Side::White => 'w',
-        Side::Black => 'b',
-        Side::Unplayed => 'u',
     }
 }

@@ -6,11 +6,12 @@
 #[cfg(test)]
 mod tests {
     use byte_kind::Bytes;
-    use kinds::{Kind, Refused};
+    use kinds::Kind;
     use reader::read;
     use reader::records::{Counts, Group};
     use rounds::Rounds;
     use std::alloc::{AllocError, Global};
+    use std::iter;
     use std::test::Fail;
     use trees::Node;
 
@@ -50,12 +51,15 @@ mod tests {
         Ranges(usize, &'static [Range]),
     }
 
-    // What reading gives.
+    // A tree as its node list, and what its positions admit.
     #[derive(Clone, Copy)]
-    enum Outcome {
-        Tree(Nodes, Classes),
-        // a refusal's number and place
-        Refused(u8, usize),
+    struct Tree(Nodes, Classes);
+
+    // A refusal's number and place.
+    #[derive(Clone, Copy, PartialEq, Eq, Debug)]
+    struct Fault {
+        number: u8,
+        place: usize,
     }
 
     // The cases of a kind, as constants: each call that made a line would be a step to prove.
@@ -67,8 +71,8 @@ mod tests {
         ranges: &'static [(&'static [u8], &'static [Record], usize, &'static [Range])],
         // a text, and the number and place of its refusal
         refusals: &'static [(&'static [u8], u8, usize)],
-        // a text in parts, the memory that is lent, and what is given
-        limits: &'static [(&'static [Part], Lent, Outcome)],
+        // a text in parts, the memory that is lent, and the tree or the refusal's number and place
+        limits: &'static [(&'static [Part], Lent, Result<Tree, (u8, usize)>)],
     }
 
     const BYTES: Tables = Tables {
@@ -355,36 +359,36 @@ mod tests {
             (
                 &[(b"(", 32), (b"a", 1), (b")", 32)],
                 ENOUGH,
-                Outcome::Tree(Nodes::Listed(&[(1, 1, 0)]), Classes::Letters(b"a")),
+                Ok(Tree(Nodes::Listed(&[(1, 1, 0)]), Classes::Letters(b"a"))),
             ),
             (
                 &[(b"(", 32), (b")", 32)],
                 ENOUGH,
-                Outcome::Tree(Nodes::Listed(&[(0, 0, 0)]), Classes::Letters(b"")),
+                Ok(Tree(Nodes::Listed(&[(0, 0, 0)]), Classes::Letters(b""))),
             ),
             // more than 32 groups, never two of them open together
             (
                 &[(b"(a)", 40)],
                 ENOUGH,
-                Outcome::Tree(
+                Ok(Tree(
                     Nodes::Starred(79, 79),
                     Classes::Letters(b"aaaaaaaaaaaaaaaaaaaaaaaaaaaaaaaaaaaaaaaa"),
-                ),
+                )),
             ),
             (
                 &[(b"a", 63)],
                 ENOUGH,
-                Outcome::Tree(
+                Ok(Tree(
                     Nodes::Starred(125, 125),
                     Classes::Letters(
                         b"aaaaaaaaaaaaaaaaaaaaaaaaaaaaaaaaaaaaaaaaaaaaaaaaaaaaaaaaaaaaaaa",
                     ),
-                ),
+                )),
             ),
             (
                 &[(b"a", 1), (b"*", 254)],
                 ENOUGH,
-                Outcome::Tree(Nodes::Starred(1, 255), Classes::Letters(b"a")),
+                Ok(Tree(Nodes::Starred(1, 255), Classes::Letters(b"a"))),
             ),
             // 63 positions and 255 nodes at once, and no letter twice
             (
@@ -396,24 +400,24 @@ mod tests {
                     (b"*", 130),
                 ],
                 ENOUGH,
-                Outcome::Tree(
+                Ok(Tree(
                     Nodes::Starred(125, 255),
                     Classes::Letters(
                         b"ABCDEFGHIJKLMNOPQRSTUVWXYZabcdefghijklmnopqrstuvwxyz0123456789_",
                     ),
-                ),
+                )),
             ),
             // 1,024 bytes
             (
                 &[(b"[", 1), (b"a", 1022), (b"]", 1)],
                 ENOUGH,
-                Outcome::Tree(Nodes::Listed(&[(1, 1, 0)]), Classes::Letters(b"a")),
+                Ok(Tree(Nodes::Listed(&[(1, 1, 0)]), Classes::Letters(b"a"))),
             ),
             // longer memory is cleared to its end
             (
                 &[(b"(a|b)c*", 1)],
                 LONGER,
-                Outcome::Tree(
+                Ok(Tree(
                     Nodes::Listed(&[
                         (1, 1, 0),
                         (1, 2, 0),
@@ -423,30 +427,22 @@ mod tests {
                         (2, 2, 4),
                     ]),
                     Classes::Letters(b"abc"),
-                ),
+                )),
             ),
             // how many groups may be open
-            (&[(b"(", 32)], ENOUGH, Outcome::Refused(8, 32)),
-            (&[(b"(", 33)], ENOUGH, Outcome::Refused(11, 32)),
-            (
-                &[(b"(", 33), (b"a", 1), (b")", 33)],
-                ENOUGH,
-                Outcome::Refused(11, 32),
-            ),
-            (
-                &[(b"(", 32), (b"()", 1), (b")", 32)],
-                ENOUGH,
-                Outcome::Refused(11, 32),
-            ),
-            (&[(b"(", 32), (b"a", 1)], ENOUGH, Outcome::Refused(10, 31)),
-            (&[(b"(", 32), (b"a(", 1)], ENOUGH, Outcome::Refused(11, 33)),
-            (&[(b"(", 32), (b"a)(", 1)], ENOUGH, Outcome::Refused(8, 35)),
-            (&[(b"(", 31), (b"()(", 1)], ENOUGH, Outcome::Refused(8, 34)),
-            (&[(b"()", 33), (b"(", 33)], ENOUGH, Outcome::Refused(11, 98)),
+            (&[(b"(", 32)], ENOUGH, Err((8, 32))),
+            (&[(b"(", 33)], ENOUGH, Err((11, 32))),
+            (&[(b"(", 33), (b"a", 1), (b")", 33)], ENOUGH, Err((11, 32))),
+            (&[(b"(", 32), (b"()", 1), (b")", 32)], ENOUGH, Err((11, 32))),
+            (&[(b"(", 32), (b"a", 1)], ENOUGH, Err((10, 31))),
+            (&[(b"(", 32), (b"a(", 1)], ENOUGH, Err((11, 33))),
+            (&[(b"(", 32), (b"a)(", 1)], ENOUGH, Err((8, 35))),
+            (&[(b"(", 31), (b"()(", 1)], ENOUGH, Err((8, 34))),
+            (&[(b"()", 33), (b"(", 33)], ENOUGH, Err((11, 98))),
             // too many positions, too many nodes, or both
-            (&[(b"a", 64)], ENOUGH, Outcome::Refused(12, 64)),
-            (&[(b"a", 1), (b"*", 255)], ENOUGH, Outcome::Refused(12, 256)),
-            (&[(b"()", 129)], ENOUGH, Outcome::Refused(12, 258)),
+            (&[(b"a", 64)], ENOUGH, Err((12, 64))),
+            (&[(b"a", 1), (b"*", 255)], ENOUGH, Err((12, 256))),
+            (&[(b"()", 129)], ENOUGH, Err((12, 258))),
             (
                 &[
                     (
@@ -456,74 +452,50 @@ mod tests {
                     (b"*", 131),
                 ],
                 ENOUGH,
-                Outcome::Refused(12, 196),
+                Err((12, 196)),
             ),
             (
                 &[(b"(", 32), (b"a", 64), (b")", 32)],
                 ENOUGH,
-                Outcome::Refused(12, 128),
+                Err((12, 128)),
             ),
             // the size comes after every other fault
-            (&[(b"a", 64), (b")", 1)], ENOUGH, Outcome::Refused(9, 64)),
-            (
-                &[(b"a", 64), (b"[b-a]", 1)],
-                ENOUGH,
-                Outcome::Refused(6, 65),
-            ),
-            (&[(b"a", 64), (b"|", 1)], ENOUGH, Outcome::Refused(8, 65)),
-            (&[(b"a", 64), (b"\\", 1)], ENOUGH, Outcome::Refused(4, 64)),
-            (&[(b"a", 64), (b"(", 33)], ENOUGH, Outcome::Refused(11, 96)),
-            (&[(b"a", 64), (b"(b", 1)], ENOUGH, Outcome::Refused(10, 64)),
-            (
-                &[(b"a", 1), (b"*", 300), (b")", 1)],
-                ENOUGH,
-                Outcome::Refused(9, 301),
-            ),
+            (&[(b"a", 64), (b")", 1)], ENOUGH, Err((9, 64))),
+            (&[(b"a", 64), (b"[b-a]", 1)], ENOUGH, Err((6, 65))),
+            (&[(b"a", 64), (b"|", 1)], ENOUGH, Err((8, 65))),
+            (&[(b"a", 64), (b"\\", 1)], ENOUGH, Err((4, 64))),
+            (&[(b"a", 64), (b"(", 33)], ENOUGH, Err((11, 96))),
+            (&[(b"a", 64), (b"(b", 1)], ENOUGH, Err((10, 64))),
+            (&[(b"a", 1), (b"*", 300), (b")", 1)], ENOUGH, Err((9, 301))),
             // 1,024 bytes
-            (&[(b"a", 1024)], ENOUGH, Outcome::Refused(12, 1024)),
-            (
-                &[(b"a", 1), (b"*", 1023)],
-                ENOUGH,
-                Outcome::Refused(12, 1024),
-            ),
-            (
-                &[(b"a|", 511), (b"aa", 1)],
-                ENOUGH,
-                Outcome::Refused(12, 1024),
-            ),
-            (&[(b"a|", 512)], ENOUGH, Outcome::Refused(8, 1024)),
-            (
-                &[(b"a", 1023), (b"[", 1)],
-                ENOUGH,
-                Outcome::Refused(5, 1023),
-            ),
-            (&[(b"(", 1024)], ENOUGH, Outcome::Refused(11, 32)),
+            (&[(b"a", 1024)], ENOUGH, Err((12, 1024))),
+            (&[(b"a", 1), (b"*", 1023)], ENOUGH, Err((12, 1024))),
+            (&[(b"a|", 511), (b"aa", 1)], ENOUGH, Err((12, 1024))),
+            (&[(b"a|", 512)], ENOUGH, Err((8, 1024))),
+            (&[(b"a", 1023), (b"[", 1)], ENOUGH, Err((5, 1023))),
+            (&[(b"(", 1024)], ENOUGH, Err((11, 32))),
             // a byte more
-            (&[(b"a", 1025)], ENOUGH, Outcome::Refused(1, 0)),
-            (&[(b")", 1025)], ENOUGH, Outcome::Refused(1, 0)),
-            (
-                &[(b"[", 1), (b"a", 1023), (b"]", 1)],
-                ENOUGH,
-                Outcome::Refused(1, 0),
-            ),
+            (&[(b"a", 1025)], ENOUGH, Err((1, 0))),
+            (&[(b")", 1025)], ENOUGH, Err((1, 0))),
+            (&[(b"[", 1), (b"a", 1023), (b"]", 1)], ENOUGH, Err((1, 0))),
             // memory that is too short, whatever the text
-            (&[(b"a", 1)], Lent(254, 63, 32), Outcome::Refused(2, 0)),
-            (&[(b"a", 1)], Lent(255, 62, 32), Outcome::Refused(2, 0)),
-            (&[(b"a", 1)], Lent(255, 63, 31), Outcome::Refused(2, 0)),
-            (&[(b"a", 1)], Lent(254, 70, 40), Outcome::Refused(2, 0)),
-            (&[(b"a", 1)], Lent(300, 62, 40), Outcome::Refused(2, 0)),
-            (&[(b"a", 1)], Lent(300, 70, 31), Outcome::Refused(2, 0)),
-            (&[(b"a", 1)], NOTHING, Outcome::Refused(2, 0)),
-            (&[(b")", 1)], Lent(254, 63, 32), Outcome::Refused(2, 0)),
-            (&[(b"[", 1)], Lent(255, 63, 31), Outcome::Refused(2, 0)),
-            (&[], NOTHING, Outcome::Refused(1, 0)),
-            (&[(b"a", 1025)], Lent(254, 62, 31), Outcome::Refused(1, 0)),
+            (&[(b"a", 1)], Lent(254, 63, 32), Err((2, 0))),
+            (&[(b"a", 1)], Lent(255, 62, 32), Err((2, 0))),
+            (&[(b"a", 1)], Lent(255, 63, 31), Err((2, 0))),
+            (&[(b"a", 1)], Lent(254, 70, 40), Err((2, 0))),
+            (&[(b"a", 1)], Lent(300, 62, 40), Err((2, 0))),
+            (&[(b"a", 1)], Lent(300, 70, 31), Err((2, 0))),
+            (&[(b"a", 1)], NOTHING, Err((2, 0))),
+            (&[(b")", 1)], Lent(254, 63, 32), Err((2, 0))),
+            (&[(b"[", 1)], Lent(255, 63, 31), Err((2, 0))),
+            (&[], NOTHING, Err((1, 0))),
+            (&[(b"a", 1025)], Lent(254, 62, 31), Err((1, 0))),
             // longer memory moves no limit, and is cleared to its end
-            (&[(b"(a", 1)], LONGER, Outcome::Refused(10, 0)),
-            (&[(b"a", 64)], LONGER, Outcome::Refused(12, 64)),
-            (&[(b"a", 1), (b"*", 255)], LONGER, Outcome::Refused(12, 256)),
-            (&[(b"(", 33)], LONGER, Outcome::Refused(11, 32)),
-            (&[(b"a", 1025)], LONGER, Outcome::Refused(1, 0)),
+            (&[(b"(a", 1)], LONGER, Err((10, 0))),
+            (&[(b"a", 64)], LONGER, Err((12, 64))),
+            (&[(b"a", 1), (b"*", 255)], LONGER, Err((12, 256))),
+            (&[(b"(", 33)], LONGER, Err((11, 32))),
+            (&[(b"a", 1025)], LONGER, Err((1, 0))),
         ],
     };
 
@@ -603,10 +575,10 @@ mod tests {
             (b"w)", 3, 0),
         ],
         limits: &[
-            (&[(b"Wb", 64)], ENOUGH, Outcome::Refused(12, 128)),
-            (&[(b"Wb", 64), (b"b", 1)], ENOUGH, Outcome::Refused(3, 128)),
-            (&[(b"W", 1)], Lent(255, 62, 32), Outcome::Refused(2, 0)),
-            (&[(b"w", 1)], LONGER, Outcome::Refused(3, 0)),
+            (&[(b"Wb", 64)], ENOUGH, Err((12, 128))),
+            (&[(b"Wb", 64), (b"b", 1)], ENOUGH, Err((3, 128))),
+            (&[(b"W", 1)], Lent(255, 62, 32), Err((2, 0))),
+            (&[(b"w", 1)], LONGER, Err((3, 0))),
         ],
     };
 
@@ -624,36 +596,29 @@ mod tests {
     };
 
     fn spelled(heap: Global, parts: &[Part]) -> Result<Vec<u8>, AllocError> {
-        let mut text = Vec::new(heap);
-        for (bytes, times) in parts {
-            for _ in 0..*times {
-                text.extend_from_slice(bytes)?;
-            }
-        }
-        Ok(text)
-    }
-
-    fn filled<T: Copy>(heap: Global, old: T, count: usize) -> Result<Vec<T>, AllocError> {
-        let mut records = Vec::new(heap);
-        records.resize(count, old)?;
-        Ok(records)
+        parts
+            .iter()
+            .flat_map(|(bytes, times)| iter::repeat_n(*bytes, *times))
+            .flatten()
+            .copied()
+            .collect(heap)
     }
 
     const fn record(kind: u8, a: usize, b: usize) -> Node {
         Node { kind, a, b }
     }
 
-    fn node_count(nodes: Nodes) -> usize {
-        match nodes {
-            Nodes::Listed(list) => list.len(),
-            Nodes::Starred(_, all) => all,
-        }
-    }
-
-    fn position_count(classes: Classes) -> usize {
-        match classes {
-            Classes::Letters(letters) => letters.len(),
-            Classes::Ranges(positions, _) => positions,
+    fn counts(tree: Tree) -> Counts {
+        let Tree(nodes, classes) = tree;
+        Counts {
+            nodes: match nodes {
+                Nodes::Listed(list) => list.len(),
+                Nodes::Starred(_, all) => all,
+            },
+            positions: match classes {
+                Classes::Letters(letters) => letters.len(),
+                Classes::Ranges(positions, _) => positions,
+            },
         }
     }
 
@@ -684,112 +649,120 @@ mod tests {
     // Whether class i, counted from 0, admits symbol n; beyond the last position it admits nothing.
     fn admits(classes: Classes, i: usize, n: usize) -> bool {
         match classes {
-            Classes::Letters(letters) => match letters.get(i) {
-                Some(letter) => *letter as usize == n,
-                None => false,
-            },
-            Classes::Ranges(_, ranges) => {
-                for (position, first, last) in ranges {
-                    if i < *position && *position - i == 1 && *first <= n && n <= *last {
-                        return true;
-                    }
-                }
-                false
-            }
+            Classes::Letters(letters) => letters
+                .get(i)
+                .is_some_and(|letter| usize::from(*letter) == n),
+            Classes::Ranges(_, ranges) => ranges.iter().any(|(position, first, last)| {
+                position.checked_sub(1) == Some(i) && (*first..=*last).contains(&n)
+            }),
         }
     }
 
-    fn given(outcome: Outcome, read: Result<Counts, Refused>) -> bool {
-        match outcome {
-            Outcome::Tree(nodes, classes) => match read {
-                Ok(counts) => {
-                    counts.nodes == node_count(nodes) && counts.positions == position_count(classes)
-                }
-                Err(_) => false,
-            },
-            Outcome::Refused(number, place) => match read {
-                Ok(_) => false,
-                Err(refused) => refused.refusal.number() == number && refused.place == place,
-            },
+    // Node i as reading leaves it: refusals 1 and 2 leave the lent memory as it was, and every other
+    // refusal clears it.
+    fn node_left(wanted: Result<Tree, Fault>, i: usize) -> Node {
+        match wanted {
+            Ok(Tree(nodes, _)) => listed(nodes, i),
+            Err(Fault { number: 1 | 2, .. }) => OLD_NODE,
+            Err(_) => record(0, 0, 0),
         }
     }
 
-    fn nodes_left(outcome: Outcome, nodes: &[Node]) -> bool {
-        for (i, left) in nodes.iter().enumerate() {
-            let wanted = match outcome {
-                Outcome::Tree(nodes, _) => listed(nodes, i),
-                Outcome::Refused(1 | 2, _) => OLD_NODE,
-                Outcome::Refused(_, _) => record(0, 0, 0),
-            };
-            if *left != wanted {
-                return false;
-            }
-        }
-        true
+    fn nodes_left(wanted: Result<Tree, Fault>, nodes: &[Node]) -> bool {
+        nodes
+            .iter()
+            .enumerate()
+            .all(|(i, left)| *left == node_left(wanted, i))
     }
 
-    fn classes_left<K: Kind>(outcome: Outcome, old: K::Class, classes: &[K::Class]) -> bool {
-        for (i, left) in classes.iter().enumerate() {
-            for n in 0..K::symbols() {
-                let Some(symbol) = K::symbol_of(n) else {
-                    return false;
+    // Whether class i, counted from 0, is as reading leaves it.
+    fn class_left<K: Kind>(
+        wanted: Result<Tree, Fault>,
+        old: K::Class,
+        i: usize,
+        left: K::Class,
+    ) -> bool {
+        (0..K::symbols()).all(|n| {
+            K::symbol_of(n).is_some_and(|symbol| {
+                let admitted = match wanted {
+                    Ok(Tree(_, classes)) => admits(classes, i, n),
+                    Err(Fault { number: 1 | 2, .. }) => K::admitted(old, symbol),
+                    Err(_) => false,
                 };
-                let wanted = match outcome {
-                    Outcome::Tree(_, classes) => admits(classes, i, n),
-                    Outcome::Refused(1 | 2, _) => K::admitted(old, symbol),
-                    Outcome::Refused(_, _) => false,
-                };
-                if K::admitted(*left, symbol) != wanted {
-                    return false;
-                }
-            }
-        }
-        true
+                K::admitted(left, symbol) == admitted
+            })
+        })
     }
 
-    fn groups_left(outcome: Outcome, groups: &[Group]) -> bool {
-        let wanted = match outcome {
-            Outcome::Refused(1 | 2, _) => OLD_GROUP,
+    fn classes_left<K: Kind>(
+        wanted: Result<Tree, Fault>,
+        old: K::Class,
+        classes: &[K::Class],
+    ) -> bool {
+        classes
+            .iter()
+            .enumerate()
+            .all(|(i, left)| class_left::<K>(wanted, old, i, *left))
+    }
+
+    fn groups_left(wanted: Result<Tree, Fault>, groups: &[Group]) -> bool {
+        let group = match wanted {
+            Err(Fault { number: 1 | 2, .. }) => OLD_GROUP,
             _ => Group {
                 place: 0,
                 choice: 0,
                 sequence: 0,
             },
         };
-        for left in groups {
-            if *left != wanted {
-                return false;
-            }
-        }
-        true
+        groups.iter().all(|left| *left == group)
     }
 
     fn holds<K: Kind>(
         heap: Global,
         text: &[u8],
         lent: Lent,
-        outcome: Outcome,
+        wanted: Result<Tree, Fault>,
     ) -> Result<bool, AllocError> {
         // `.` admits something in both kinds, so that a class that is not cleared is seen
         let Ok(dot) = K::read_atom(b".", 0) else {
             return Ok(false);
         };
         let Lent(node_count, class_count, group_count) = lent;
-        let mut nodes = filled(heap, OLD_NODE, node_count)?;
-        let mut classes = filled(heap, dot.class, class_count)?;
-        let mut groups = filled(heap, OLD_GROUP, group_count)?;
+        let mut nodes = vec![in heap; OLD_NODE; node_count]?;
+        let mut classes = vec![in heap; dot.class; class_count]?;
+        let mut groups = vec![in heap; OLD_GROUP; group_count]?;
         let read = read::<K>(
             text,
             nodes.as_mut_slice(),
             classes.as_mut_slice(),
             groups.as_mut_slice(),
-        );
-        Ok(
-            given(outcome, read)
-                && nodes_left(outcome, nodes.as_slice())
-                && classes_left::<K>(outcome, dot.class, classes.as_slice())
-                && groups_left(outcome, groups.as_slice()),
         )
+        .map_err(|refused| Fault {
+            number: u8::from(refused.refusal),
+            place: refused.place,
+        });
+        Ok(
+            read == wanted.map(counts)
+                && nodes_left(wanted, nodes.as_slice())
+                && classes_left::<K>(wanted, dot.class, classes.as_slice())
+                && groups_left(wanted, groups.as_slice()),
+        )
+    }
+
+    // The first line of a table that does not hold, counted from 0.
+    fn first_wrong_line<L, F: Fn(&L) -> Result<bool, AllocError>>(
+        lines: &[L],
+        holds: F,
+    ) -> Result<Option<usize>, AllocError>
+        requires { F.IsAlwaysCallable holds }
+    {
+        // a for: memory can run out before a line is known to hold
+        for (i, line) in lines.iter().enumerate() {
+            if !holds(line)? {
+                return Ok(Some(i));
+            }
+        }
+        Ok(None)
     }
 
     // The first line that does not hold, with its table, counted from 0.
@@ -797,31 +770,29 @@ mod tests {
         heap: Global,
         tables: Tables,
     ) -> Result<Option<(&'static str, usize)>, AllocError> {
-        for (i, (text, nodes, letters)) in tables.letters.iter().enumerate() {
-            let outcome = Outcome::Tree(Nodes::Listed(nodes), Classes::Letters(letters));
-            if !holds::<K>(heap, text, ENOUGH, outcome)? {
-                return Ok(Some(("letters", i)));
-            }
-        }
-        for (i, (text, nodes, positions, ranges)) in tables.ranges.iter().enumerate() {
-            let outcome = Outcome::Tree(Nodes::Listed(nodes), Classes::Ranges(*positions, ranges));
-            if !holds::<K>(heap, text, ENOUGH, outcome)? {
-                return Ok(Some(("ranges", i)));
-            }
-        }
-        for (i, (text, number, place)) in tables.refusals.iter().enumerate() {
-            let outcome = Outcome::Refused(*number, *place);
-            if !holds::<K>(heap, text, ENOUGH, outcome)? {
-                return Ok(Some(("refusals", i)));
-            }
-        }
-        for (i, (parts, lent, outcome)) in tables.limits.iter().enumerate() {
+        let letters = first_wrong_line(tables.letters, |&(text, nodes, letters)| {
+            let tree = Tree(Nodes::Listed(nodes), Classes::Letters(letters));
+            holds::<K>(heap, text, ENOUGH, Ok(tree))
+        })?;
+        let ranges = first_wrong_line(tables.ranges, |&(text, nodes, positions, ranges)| {
+            let tree = Tree(Nodes::Listed(nodes), Classes::Ranges(positions, ranges));
+            holds::<K>(heap, text, ENOUGH, Ok(tree))
+        })?;
+        let refusals = first_wrong_line(tables.refusals, |&(text, number, place)| {
+            holds::<K>(heap, text, ENOUGH, Err(Fault { number, place }))
+        })?;
+        let limits = first_wrong_line(tables.limits, |&(parts, lent, wanted)| {
             let text = spelled(heap, parts)?;
-            if !holds::<K>(heap, text.as_slice(), *lent, *outcome)? {
-                return Ok(Some(("limits", i)));
-            }
-        }
-        Ok(None)
+            let wanted = wanted.map_err(|(number, place)| Fault { number, place });
+            holds::<K>(heap, text.as_slice(), lent, wanted)
+        })?;
+        Ok(
+            letters
+                .map(|i| ("letters", i))
+                .or(ranges.map(|i| ("ranges", i)))
+                .or(refusals.map(|i| ("refusals", i)))
+                .or(limits.map(|i| ("limits", i))),
+        )
     }
 
     #[test]

@@ -107,3 +107,34 @@ fn outcome_of(number: usize) -> Outcome
         _ => Outcome::Loss,
     }
 }
+
+use std::fmt;
+
+// The letter of an outcome in the language.
+impl fmt::Display for Outcome {
+    fn fmt<W: fmt::Write>(&self, f: &mut fmt::Formatter<W>) -> fmt::Result {
+        f.write_str(match self {
+            Outcome::Win => "W",
+            Outcome::Draw => "D",
+            Outcome::Loss => "L",
+        })
+    }
+}
+
+// The letter of a side in the language.
+impl fmt::Display for Side {
+    fn fmt<W: fmt::Write>(&self, f: &mut fmt::Formatter<W>) -> fmt::Result {
+        f.write_str(match self {
+            Side::White => "w",
+            Side::Black => "b",
+            Side::Unplayed => "u",
+        })
+    }
+}
+
+// A round as the unit that is narrowed to it.
+impl fmt::Display for Round {
+    fn fmt<W: fmt::Write>(&self, f: &mut fmt::Formatter<W>) -> fmt::Result {
+        write!(f, "{}{}", self.outcome, self.side)
+    }
+}
