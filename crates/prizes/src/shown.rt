@@ -72,7 +72,7 @@ impl Shown for Rounds {
     // Rounds as units, in the order of their numbers.
     fn fmt_class<W: fmt::Write>(class: RoundClass, f: &mut fmt::Formatter<W>) -> fmt::Result {
         let members = (0..9).filter(|number| class.has(*number));
-        for round in members.filter_map(Round::of_number) {
+        for round in members.filter_map(|number| Round::try_from(number).ok()) {
             write!(f, " {round}")?;
         }
         Ok(())

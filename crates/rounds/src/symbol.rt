@@ -1,6 +1,8 @@
 ghost use Rattle.std.specs.Prelude.{◌≡◌, ◌<◌};
 ghost use Rattle.rounds.specs.Symbols.{side_number, outcome_number, round_number, side_of, outcome_of, in_unit, IsRoundOf};
 
+use std::fmt;
+
 // On which side a round was played, if it was played.
 #[derive(Clone, Copy, PartialEq, Eq, Debug)]
 pub enum Side {
@@ -107,8 +109,6 @@ fn outcome_of(number: usize) -> Outcome
         _ => Outcome::Loss,
     }
 }
-
-use std::fmt;
 
 // The letter of an outcome in the language.
 impl fmt::Display for Outcome {
