@@ -1,19 +1,11 @@
-use Rattle.std.proofs.Common.{◌≡◌, ℕ, ◌+◌, ◌<◌, ◌≤◌, true, false, List, ◌∷◌, length, get_or, drop, Ok, sym, refl, ◌∙◌}
-use Rattle.std.proofs.lemmas.List.{drop_more, drop_all}
-use Rattle.kinds.specs.declared.Refusal.TheVariants.{NoAtom, UnfinishedEscape}
+use Rattle.std.proofs.Common.{◌≡◌, ℕ, ◌+◌, ◌<◌, true, false, List, ◌∷◌, length, get_or, drop, Ok, sym, refl, ◌∙◌}
+use Rattle.std.proofs.lemmas.List.{drop_more}
+use Rattle.kinds.specs.declared.Refusal.TheVariants.{NoAtom}
 use Rattle.kinds.specs.Atoms.{refused_at, is_operator}
 use Rattle.byte_kind.specs.declared.class.ByteClass.{ByteClass}
 use Rattle.byte_kind.specs.Reading.{set_from, escape_from, atom_from, byte_reading}
 use Rattle.byte_kind.specs.Class.{only_class, others}
 use Rattle.std.proofs.lemmas.Bool.{ne_eqb}
-
--- What stands behind `\`.
-pub escape_cut : (text : List ℕ) (i : ℕ) → length text ≤ i + 1 → refused_at UnfinishedEscape i ≡ escape_from (drop (i + 1) text) i
-escape_cut text i h = rw (drop_all (i + 1) text h)
-
-pub escape_with : (text : List ℕ) (i : ℕ) (c : ByteClass) → i + 1 < length text → c ≡ only_class (get_or text (i + 1) 0)
-    → Ok (record { class = c; length = 2 }) ≡ escape_from (drop (i + 1) text) i
-escape_with text i c h e = rw (e, drop_more text (i + 1) 0 h)
 
 -- The atom at a place, by its first byte.
 module _ (text : List ℕ) (i : ℕ) (h : i < length text) where

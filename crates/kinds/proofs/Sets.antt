@@ -1,4 +1,4 @@
-use Rattle.std.proofs.Common.{◌≡◌, ℕ, ◌+◌, ◌<◌, ◌≤◌, Bool, true, false, ◌⊎◌, List, [], ◌∷◌, length, get_or, drop, Result, refl, sym, inl, inr, ◌∙◌, arith}
+use Rattle.std.proofs.Common.{◌≡◌, ℕ, ◌+◌, ◌<◌, ◌≤◌, Bool, false, ◌⊎◌, List, [], ◌∷◌, length, get_or, drop, Result, refl, sym, inl, inr, ◌∙◌, arith}
 use Rattle.std.proofs.lemmas.List.{drop_more, drop_all}
 use Rattle.std.proofs.lemmas.Bool.{ne_eqb}
 use Rattle.kinds.specs.declared.Atom.{Atom}
@@ -29,13 +29,7 @@ module _ {M C : Type 0} (start : M) (turn : M → ℕ → ℕ → ℕ → Turn M
     unfolding run_set
     run_end text i state h = rw (drop_all i text h)
 
-  -- What stands behind `[`, where the next byte is known or there is none.
-  pub behind_caret : (text : List ℕ) (i : ℕ) → i + 1 < length text → get_or text (i + 1) 0 ≡ 94
-      → run_set start turn others true i (drop (i + 1 + 1) text) (i + 1 + 1) start ≡ set_from start turn others (drop (i + 1) text) i
-  behind_caret text i h e =
-      let two : i + 1 + 1 ≡ i + 2 = omega arith in
-      rw (drop_more text (i + 1) 0 h) (rw e (rw two))
-
+  -- What stands behind `[`, where no `^` leads.
   pub behind_bracket : (text : List ℕ) (i : ℕ)
       → (length text ≤ i + 1) ⊎ ((i + 1 < length text) × (get_or text (i + 1) 0 ≡ 94 → ⊥))
       → run_set start turn others false i (drop (i + 1) text) (i + 1) start ≡ set_from start turn others (drop (i + 1) text) i
