@@ -189,10 +189,10 @@ module _ (negated : Bool) (bracket : ℕ) where
   no_unit_start_run {b} rest place c ne k = rw (ne_eqb b 93 k) (rw (no_outcome ne))
 
 -- Behind the `[`.
-abbrev lead_of : {inside start : List ℕ} {negated : Bool} → Leads inside negated start → (i : ℕ)
+abbrev lead_run : {inside start : List ℕ} {negated : Bool} → Leads inside negated start → (i : ℕ)
     → (p : ℕ) × (p + length start ≡ i + 1 + length inside)
     × (set_from inside i ≡ run_set none_so_far turn_of others negated i start p none_so_far)
-lead_of l i = leads_run none_so_far turn_of others l i
+lead_run l i = leads_run none_so_far turn_of others l i
 
 -- What is read where an atom is written.
 abbrev Accepted : List ℕ → List ℕ → Shape → ℕ → Type 0
@@ -242,7 +242,7 @@ accepted t rest shape dot i =
     }
 accepted t rest shape (unit s) i = unit_accepted s i
 accepted t rest shape (set {negated = negated} {u = u} {units = units} l us) i =
-    let lead = lead_of l i in
+    let lead = lead_run l i in
     let all = start_reaches negated i us lead.0 in
     record {
       atom = record { class = whole_class others negated (with_units empty_class (u ∷ units)); length = all.behind + 1 - i };
@@ -258,14 +258,14 @@ Turned t here why i = language.ReadErr Written Faulty Exact atom_from t here why
 no_unit_refused : {inside start rest : List ℕ} {negated : Bool} {units : List RoundUnit} {b : ℕ} → Units start units (b ∷ rest)
     → Leads inside negated start → NoLetter b → (b ≢ 93) → (i : ℕ) → Turned (91 ∷ inside) (b ∷ rest) NoAtom i
 no_unit_refused {rest = rest} {negated = negated} none l ne k i =
-    let lead = lead_of l i in
+    let lead = lead_run l i in
     record {
       place = lead.0;
       is = lead.2 ∙ no_unit_start_run negated i rest lead.0 empty_class ne k;
       placed = omega arith;
     }
 no_unit_refused {rest = rest} {negated = negated} (more {unit = u} {units = units} s us) l ne k i =
-    let lead = lead_of l i in
+    let lead = lead_run l i in
     let all = start_reaches negated i (more s us) lead.0 in
     record {
       place = all.behind;
@@ -276,10 +276,10 @@ no_unit_refused {rest = rest} {negated = negated} (more {unit = u} {units = unit
 cut_refused : {inside start : List ℕ} {negated : Bool} {units : List RoundUnit} → Units start units [] → Leads inside negated start → (i : ℕ)
     → Turned (91 ∷ inside) (91 ∷ inside) UnfinishedSet i
 cut_refused {negated = negated} none l i =
-    let lead = lead_of l i in
+    let lead = lead_run l i in
     record { place = i; is = lead.2 ∙ cut_run negated i lead.0 Start empty_class; placed = refl }
 cut_refused {negated = negated} (more {unit = u} {units = units} s us) l i =
-    let lead = lead_of l i in
+    let lead = lead_run l i in
     let all = start_reaches negated i (more s us) lead.0 in
     record {
       place = i;
@@ -300,5 +300,5 @@ refused t here why (no_atom {b = b} {rest = rest} ne) i =
 refused t here why (no_unit l us ne k) i = no_unit_refused us l ne k i
 refused t here why (cut_set l us) i = cut_refused us l i
 refused t here why (no_units {rest = rest} {negated = negated} l) i =
-    let lead = lead_of l i in
+    let lead = lead_run l i in
     record { place = i; is = lead.2 ∙ no_units_run negated i rest lead.0 empty_class; placed = refl }
