@@ -90,6 +90,7 @@ impl RoundUnit {
     }
 }
 
+// Not `TryFrom`: what comes in is a third of a number below nine, so there is no error to give back.
 fn side_of(number: usize) -> Side
     ensures { result ≡ side_of number }
 {
@@ -100,6 +101,7 @@ fn side_of(number: usize) -> Side
     }
 }
 
+// Not `TryFrom`: what comes in is a remainder below three.
 fn outcome_of(number: usize) -> Outcome
     ensures { result ≡ outcome_of number }
 {

@@ -69,8 +69,9 @@ impl TryFrom<u8> for NodeKind {
     }
 }
 
-// A node record: plain numbers, whoever wrote them. `a` and `b` are the numbers of the operands' nodes,
-// or `a` is the number of a position; what a kind does not use is 0.
+// A node record: plain numbers, whoever wrote them; so `kind` is a number too, which may stand for no
+// kind of node. `a` and `b` are the numbers of the operands' nodes, or `a` is the number of a position;
+// what a kind does not use is 0.
 #[derive(Clone, Copy, PartialEq, Eq, Debug)]
 pub struct Node {
     pub kind: u8,
@@ -90,7 +91,8 @@ impl Node {
         }
     }
 
-    // What is left where memory is cleared: all zeros.
+    // What is left where memory is cleared: all zeros. Named for that, not a derived `Default`: that it is
+    // zeros is promised here.
     pub fn cleared() -> Node
         ensures { result ≡ cleared_node }
     {
