@@ -1,6 +1,7 @@
 ghost use Rattle.std.specs.Prelude.{◌≡◌, ◌<◌, ◌≤◌, [], length};
 ghost use Rattle.std.proofs.Math.Option.{none};
 ghost use Rattle.stack.specs.Lent.{Same};
+ghost use Rattle.stack.specs.Stacked.{lent, memory, count};
 ghost use Rattle.reader.specs.Tokens.{tokens_from};
 ghost use Rattle.reader.specs.Machine.{wanted, run};
 ghost use Rattle.reader.specs.Writer.{EndPictured};
@@ -23,9 +24,9 @@ pub(crate) fn read_tokens<K: Kind>(
     requires short { length text.now ≤ 1024 }
     requires room { 255 ≤ length nodes.old }
     requires places { 63 ≤ length classes.old }
-    requires slots { 32 ≤ length groups.old.slots.now }
-    requires empty { groups.old.used ≡ 0 }
-    ensures lent { Same groups.new.slots groups.old.slots }
+    requires slots { 32 ≤ length (memory groups.old) }
+    requires empty { count groups.old ≡ 0 }
+    ensures lent { Same (lent groups.new) (lent groups.old) }
     ensures read { EndPictured (run 32 (tokens_from K.Kind.reading text.now text.now 0 0).0 (tokens_from K.Kind.reading text.now text.now 0 0).1 [] none wanted) result nodes.new classes.new }
 {
     let mut progress = Progress {

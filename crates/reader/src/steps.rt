@@ -1,5 +1,6 @@
 ghost use Rattle.std.specs.Prelude.{◌≡◌, ◌<◌, ◌≤◌, false, ◌∷◌, length};
-ghost use Rattle.stack.specs.Lent.{Same, held};
+ghost use Rattle.stack.specs.Lent.{Same};
+ghost use Rattle.stack.specs.Stacked.{lent, memory, stacked};
 ghost use Rattle.reader.specs.Writer.{kept, pattern_nodes, started_nodes, group_count, group_nodes, opened_progress, opened_group, closed_progress, outer_groups, barred_progress, postfixed_progress, postfixed_nodes, atom_progress, atom_nodes, desk, wrote, EndsOn, IfOk, Grown, ended};
 
 use crate::limits::{MAX_GROUPS, MAX_NODES, MAX_POSITIONS};
@@ -19,23 +20,24 @@ fn open_group(
     place: usize,
 ) -> Result<Progress, Refusal>
     requires room { 255 ≤ length nodes.old }
-    requires slots { 32 ≤ length groups.old.slots.now }
+    requires slots { 32 ≤ length (memory groups.old) }
     requires some { progress.wanting ≡ false → 1 ≤ progress.nodes }
     requires few { progress.nodes < 4096 }
-    ensures lent { Same groups.new.slots groups.old.slots }
-    ensures result { result ≡ opened_progress (length (held groups.old.slots.now groups.old.used)) progress }
+    ensures lent { Same (lent groups.new) (lent groups.old) }
+    ensures result { result ≡ opened_progress (length (stacked groups.old)) progress }
     ensures nodes { IfOk result (nodes.new ≡ started_nodes progress nodes.old) }
-    ensures groups { IfOk result (held groups.new.slots.now groups.new.used ≡ opened_group place progress ∷ held groups.old.slots.now groups.old.used) }
+    ensures groups { IfOk result (stacked groups.new ≡ opened_group place progress ∷ stacked groups.old) }
 {
     if groups.len() >= MAX_GROUPS {
         return Err(Refusal::TooManyGroups);
     }
     let started = start_piece(nodes, progress);
-    groups.push(Group {
+    let group = Group {
         place,
         choice: progress.choice,
         sequence: started.sequence,
-    });
+    };
+    groups.push(group).map_err(|_| Refusal::TooManyGroups)?;
     Ok(Progress {
         nodes: started.nodes,
         choice: 0,
@@ -159,9 +161,9 @@ fn close_group(
     requires room { 255 ≤ length nodes.old }
     requires some { progress.wanting ≡ false → 1 ≤ progress.nodes }
     requires few { progress.nodes < 4095 }
-    ensures lent { Same groups.new.slots groups.old.slots }
-    ensures result { result ≡ closed_progress (held groups.old.slots.now groups.old.used) progress }
-    ensures groups { held groups.new.slots.now groups.new.used ≡ outer_groups (held groups.old.slots.now groups.old.used) }
+    ensures lent { Same (lent groups.new) (lent groups.old) }
+    ensures result { result ≡ closed_progress (stacked groups.old) progress }
+    ensures groups { stacked groups.new ≡ outer_groups (stacked groups.old) }
     ensures nodes { IfOk result (nodes.new ≡ group_nodes progress nodes.old) }
 {
     let Some(group) = groups.pop() else {
@@ -190,12 +192,12 @@ pub(crate) fn take_token<C: Copy>(
 ) -> Result<Progress, Refusal>
     requires room { 255 ≤ length nodes.old }
     requires places { 63 ≤ length classes.old }
-    requires slots { 32 ≤ length groups.old.slots.now }
+    requires slots { 32 ≤ length (memory groups.old) }
     requires some { progress.wanting ≡ false → 1 ≤ progress.nodes }
     requires few { progress.nodes < 4095 }
     requires counted { progress.positions < 4096 }
-    ensures lent { Same groups.new.slots groups.old.slots }
-    ensures taken { EndsOn (wrote place token (desk nodes.old classes.old (held groups.old.slots.now groups.old.used) progress)) nodes.new classes.new (held groups.new.slots.now groups.new.used) result }
+    ensures lent { Same (lent groups.new) (lent groups.old) }
+    ensures taken { EndsOn (wrote place token (desk nodes.old classes.old (stacked groups.old) progress)) nodes.new classes.new (stacked groups.new) result }
     ensures grown { Grown progress result }
 {
     match token {
@@ -217,8 +219,8 @@ pub(crate) fn finish(
     requires room { 255 ≤ length nodes.old }
     requires some { progress.wanting ≡ false → 1 ≤ progress.nodes }
     requires few { progress.nodes < 4095 }
-    ensures lent { Same groups.new.slots groups.old.slots }
-    ensures result { result ≡ ended end (held groups.old.slots.now groups.old.used) progress }
+    ensures lent { Same (lent groups.new) (lent groups.old) }
+    ensures result { result ≡ ended end (stacked groups.old) progress }
     ensures nodes { IfOk result (nodes.new ≡ pattern_nodes progress nodes.old) }
 {
     if progress.wanting {

@@ -2,6 +2,7 @@ use Rattle.std.proofs.Common.{◌+◌, ◌-◌, ◌<◌, [], length, Ok, sym, re
 use mathlib.Core.Option.{none}
 use Rattle.reader.specs.Machine.{wanted}
 use Rattle.stack.specs.Lent.{held}
+use Rattle.stack.specs.Stacked.{memory, stacked}
 use Rattle.stack.proofs.Held.{held_none, same_then}
 use Rattle.reader.specs.Writer.{desk}
 use Rattle.reader.proofs.Cuts.{Sized, cut_inside}
@@ -12,10 +13,10 @@ use Rattle.reader.proofs.reading.read_tokens.Goals as goal
 pub loop-place-init : goal.loop-place-init
 loop-place-init g c =
     let s = c.args.groups.now in
-    let empty = ap (held s.slots.now) c.requires.empty ∙ held_none s.slots.now in (
+    let empty = ap (held (memory s)) c.requires.empty ∙ held_none (memory s) in (
       record { at = refl; long = refl },
       reached_start g.K.Kind.reading c.args.text.now c.args.nodes.now c.args.classes.now
-          (held s.slots.now s.used) empty c.requires.room c.requires.places,
+          (stacked s) empty c.requires.room c.requires.places,
     )
 
 pub returns-in-Err : goal.returns-in-Err
@@ -63,7 +64,7 @@ returns g c =
     let s = c.loop-place.groups in
     let p = c.loop-place.progress in
     let text = c.args.text.now in
-    let d = desk c.loop-place.nodes c.loop-place.classes (held s.slots.now s.used) p in
+    let d = desk c.loop-place.nodes c.loop-place.classes (stacked s) p in
     let e = reached_end g.K.Kind.reading text c.loop-place.place d c.loop-place.invariant.1 c.loop-place-test.false in
     let o = c.finish.ensures in
     record {
