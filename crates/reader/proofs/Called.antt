@@ -1,6 +1,7 @@
 use Rattle.std.proofs.Common.{◌≡◌, ℕ, ◌-◌, ◌<◌, ◌≤◌, Bool, true, false, List, [], ◌++◌, length, take, replicate, Ok, Err, Result, sym, refl, ap, ◌∙◌, arith, take_all, take-take}
 use mathlib.Core.Option.{some, none}
 use Rattle.std.proofs.lemmas.Bool.Decides.{nat_tests}
+use Rattle.std.specs.Result.{ResultUnwrapsOrElse}
 use Rattle.stack.specs.Lent.{cleared_from}
 use Rattle.kinds.specs.declared.Atom.{Atom}
 use Rattle.kinds.specs.declared.Refused.{Refused}
@@ -28,6 +29,12 @@ begins_cleared : {X : Type 0} (limit : ℕ) (blank : X) (slots l before : List X
 begins_cleared limit blank slots l before h long b =
     let front : take (length l) slots ≡ l = sym (take-take (length l) limit slots h) ∙ sym b ∙ take_all limit l h in
     rw (front, long)
+
+-- What is in use, told by what is taken out of the outcome.
+pub used_is : (P : Counts → Type 0) → ((u : Counts) → P u → u ≡ record { nodes = 0; positions = 0 })
+    → (o : Result Counts Refused) (u : Counts) → ResultUnwrapsOrElse o P u → u ≡ used_by o
+used_is P zeros (Ok v) u h = h
+used_is P zeros (Err f) u h = zeros u h
 
 module _ {C : Type 0} (blank : C) (n : ℕ) (written nodes : List Node) (given classes : List C)
     (node_room : length written ≡ length nodes) (class_room : length given ≡ length classes) where

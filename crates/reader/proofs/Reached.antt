@@ -1,5 +1,6 @@
 use Rattle.std.proofs.Common.{◌≡◌, ℕ, ◌+◌, ◌<◌, ◌≤◌, true, List, [], length, get_or, Ok, Err, Result, sym, refl, ap, ◌∙◌, subst, arith}
 use mathlib.Core.Option.{Option, none}
+use Rattle.std.specs.Result.{MatchResult, IsErrAnd}
 use Rattle.kinds.specs.declared.Atom.{Atom}
 use Rattle.kinds.specs.declared.Refused.{Refused}
 use Rattle.kinds.specs.declared.Refusal.{Refusal}
@@ -16,6 +17,19 @@ use Rattle.reader.proofs.Pending.{Pictured, TurnPictured}
 use Rattle.reader.proofs.Pictured.{start_pictured, step_pictured, end_pictured}
 
 -- What the loop over the tokens keeps.
+
+-- What a result was before `map_err`, told by what it is then.
+module _ {X E D : Type 0} (P : E → D → Type 0) where
+  pub ok_before : (r : Result X E) (q : Result X D) (x : X) → MatchResult r (λ y. q ≡ Ok y) (λ e. IsErrAnd q (P e)) → q ≡ Ok x → r ≡ Ok x
+  ok_before (Ok y) q x h e = let z : y ≡ x = cc in ap Ok z
+  ok_before (Err d) (Ok y) x h e = absurd h
+  ok_before (Err d) (Err f) x h e = let z : ◌≡◌ {A = ℕ} 0 1 = cc in absurd (omega arith)
+
+  pub err_before : (r : Result X E) (q : Result X D) (f : D) → MatchResult r (λ y. q ≡ Ok y) (λ e. IsErrAnd q (P e)) → q ≡ Err f
+      → (e : E) × (r ≡ Err e) × P e f
+  err_before (Ok y) q f h e = let z : ◌≡◌ {A = ℕ} 0 1 = cc in absurd (omega arith)
+  err_before (Err d) (Ok y) f h e = absurd h
+  err_before (Err d) (Err g) f h e = let z : g ≡ f = cc in (d, refl, subst (P d) z h)
 
 -- A turn of the program tells the turn of the machine.
 module _ {C : Type 0} where

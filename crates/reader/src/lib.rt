@@ -5,7 +5,7 @@
 
 ghost use Rattle.std.specs.Prelude.{◌≡◌};
 ghost use Rattle.reader.specs.Call.{ReadCall};
-ghost use Rattle.reader.specs.Writer.{limited_counts, used_by};
+ghost use Rattle.reader.specs.Writer.{limited_counts};
 
 use crate::limits::{MAX_GROUPS, MAX_NODES, MAX_POSITIONS, MAX_TEXT};
 use crate::reading::read_tokens;
@@ -32,22 +32,16 @@ pub fn read<K: Kind>(
     ensures { ReadCall K.Kind.reading K.Kind.cleared text.now nodes.old classes.old groups.old result nodes.new classes.new groups.new }
 {
     if text.is_empty() || text.len() > MAX_TEXT {
-        return Err(Refused {
-            refusal: Refusal::TextLength,
-            place: 0,
-        });
+        return Err(Refusal::TextLength.at(0));
     }
     if nodes.len() < MAX_NODES || classes.len() < MAX_POSITIONS || groups.len() < MAX_GROUPS {
-        return Err(Refused {
-            refusal: Refusal::MemoryTooShort,
-            place: 0,
-        });
+        return Err(Refusal::MemoryTooShort.at(0));
     }
     let mut stack = Stack::over(groups);
     let read = read_tokens::<K>(text, nodes, classes, &mut stack);
     stack.clear(Group::cleared());
     let outcome = limited(read, text.len());
-    let used = used_by(outcome);
+    let used = outcome.unwrap_or_default();
     clear_from(nodes, used.nodes, Node::cleared());
     clear_from(classes, used.positions, K::cleared_class());
     outcome
@@ -59,24 +53,8 @@ fn limited(read: Result<Counts, Refused>, end: usize) -> Result<Counts, Refused>
 {
     match read {
         Ok(counts) if counts.positions > MAX_POSITIONS || counts.nodes > MAX_NODES => Err(
-            Refused {
-                refusal: Refusal::PatternTooLarge,
-                place: end,
-            },
+            Refusal::PatternTooLarge.at(end),
         ),
         other => other,
-    }
-}
-
-// How many records an outcome leaves in use: none, on a refusal.
-fn used_by(outcome: Result<Counts, Refused>) -> Counts
-    ensures { result ≡ used_by outcome }
-{
-    match outcome {
-        Ok(counts) => counts,
-        Err(_) => Counts {
-            nodes: 0,
-            positions: 0,
-        },
     }
 }

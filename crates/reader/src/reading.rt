@@ -38,14 +38,10 @@ pub(crate) fn read_tokens<K: Kind>(
     };
     let mut place = 0;
     while place < text.len() {
-        let cut = match token_at::<K>(text, place) {
-            Ok(cut) => cut,
-            Err(refused) => return Err(refused),
-        };
-        progress = match take_token(nodes, classes, groups, progress, place, cut.token) {
-            Ok(progress) => progress,
-            Err(refusal) => return Err(Refused { refusal, place }),
-        };
+        let cut = token_at::<K>(text, place)?;
+        progress = take_token(nodes, classes, groups, progress, place, cut.token).map_err(
+            |refusal| refusal.at(place),
+        )?;
         place += cut.length;
     }
     finish(nodes, groups, progress, place)

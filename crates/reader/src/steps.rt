@@ -169,16 +169,14 @@ fn close_group(
     let Some(group) = groups.pop() else {
         return Err(Refusal::NoOpenGroup);
     };
-    match end_group(nodes, progress) {
-        Ok(count) => Ok(Progress {
-            nodes: count,
-            positions: progress.positions,
-            choice: group.choice,
-            sequence: group.sequence,
-            wanting: false,
-        }),
-        Err(refusal) => Err(refusal),
-    }
+    let count = end_group(nodes, progress)?;
+    Ok(Progress {
+        nodes: count,
+        choice: group.choice,
+        sequence: group.sequence,
+        wanting: false,
+        ..progress
+    })
 }
 
 // One token at its place.
@@ -224,16 +222,10 @@ pub(crate) fn finish(
     ensures nodes { IfOk result (nodes.new ≡ pattern_nodes progress nodes.old) }
 {
     if progress.wanting {
-        return Err(Refused {
-            refusal: Refusal::BaseWanted,
-            place: end,
-        });
+        return Err(Refusal::BaseWanted.at(end));
     }
     match groups.pop() {
-        Some(group) => Err(Refused {
-            refusal: Refusal::UnfinishedGroup,
-            place: group.place,
-        }),
+        Some(group) => Err(Refusal::UnfinishedGroup.at(group.place)),
         None => Ok(Counts {
             nodes: end_pattern(nodes, progress),
             positions: progress.positions,
