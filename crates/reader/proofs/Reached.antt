@@ -68,14 +68,14 @@ module _ {C : Type 0} (reading : List ℕ → ℕ → Result (Atom C) Refused) (
     pub nodes : d.progress.nodes ≤ i + i
     pub positions : d.progress.positions ≤ i
 
-  pub reached_start : (nodes : List Node) (classes : List C) (gs : List Group) → gs ≡ [] → 255 ≤ length nodes → 63 ≤ length classes
+  pub reached_start : (nodes : List Node) (classes : List C) (gs : List Group) → gs ≡ []
       → Reached 0 (desk nodes classes gs (record { nodes = 0; positions = 0; choice = 0; sequence = 0; wanting = true }))
-  reached_start nodes classes gs e h k =
+  reached_start nodes classes gs e =
       record {
         st = [];
         alts = none;
         part = wanted;
-        pictured = rw e (start_pictured nodes classes h k);
+        pictured = rw e (start_pictured nodes classes);
         leads = refl;
         inside = omega arith;
         nodes = omega arith;
@@ -137,7 +137,7 @@ pub end_from : {C : Type 0} (o : Result (Tree C) Refused) (q r : Result Counts R
     → EndPictured o q kept classes → r ≡ q → IfOk r (nodes ≡ kept) → EndPictured o r nodes classes
 end_from (Err f) q r kept nodes classes h e n = e ∙ h
 end_from (Ok t) q (Ok x) kept nodes classes h e n =
-    record { counts = e ∙ h.counts; listed = subst (λ z. Begins 255 z (listing t)) (sym n) h.listed; leaves = h.leaves }
+    record { counts = e ∙ h.counts; listed = subst (λ z. Begins z (listing t)) (sym n) h.listed; leaves = h.leaves }
 end_from (Ok t) q (Err f) kept nodes classes h e n =
     let bad = e ∙ h.counts in
     let z : ◌≡◌ {A = ℕ} 0 1 = cc in

@@ -17,11 +17,8 @@ use Rattle.reader.specs.declared.records.Progress.{Progress}
 use Rattle.reader.specs.declared.records.Counts.{Counts}
 use Rattle.reader.specs.Call.{counts_of}
 
--- What the program's own steps do with its memory; no promise to callers speaks of this.
-
--- Memory with an item in place n, if n is below the limit.
-abbrev pub kept : {X : Type 0} → ℕ → ℕ → X → List X → List X
-kept limit n item slots = cond (nat_lt n limit) (slice_set slots n item) slots
+-- What the program's own steps do with its memory; no promise to callers speaks of this. Where memory
+-- has no place n, a write there leaves it as it is.
 
 -- A joiner of the left operand and what was written last, if there is a left operand: how many nodes
 -- there are then, and what the memory holds.
@@ -29,7 +26,7 @@ abbrev pub joined_count : ℕ → ℕ → ℕ
 joined_count left n = cond (left == 0) n (n + 1)
 
 abbrev pub joined_nodes : Joiner → ℕ → ℕ → List Node → List Node
-joined_nodes j left n nodes = cond (left == 0) nodes (kept 255 n (node_of (Join j) (left - 1) (n - 1)) nodes)
+joined_nodes j left n nodes = cond (left == 0) nodes (slice_set nodes n (node_of (Join j) (left - 1) (n - 1)))
 
 -- The whole pattern that is being read, closed: its last sequence, then its last choice.
 abbrev pub pattern_count : Progress → ℕ
@@ -45,7 +42,7 @@ group_count p =
     cond p.wanting (cond (p.choice == 0) (Ok (p.nodes + 1)) (Err BaseWanted)) (Ok (pattern_count p))
 
 abbrev pub group_nodes : Progress → List Node → List Node
-group_nodes p nodes = cond p.wanting (kept 255 p.nodes (node_of Empty 0 0) nodes) (pattern_nodes p nodes)
+group_nodes p nodes = cond p.wanting (slice_set nodes p.nodes (node_of Empty 0 0)) (pattern_nodes p nodes)
 
 -- Before a base, the pieces read so far become one sequence.
 abbrev pub started_progress : Progress → Progress
@@ -98,13 +95,13 @@ postfixed_progress p =
     cond p.wanting (Err BaseWanted) (Ok (piece_end (p.nodes + 1) p.positions p.choice p.sequence))
 
 abbrev pub postfixed_nodes : Postfix → Progress → List Node → List Node
-postfixed_nodes k p nodes = kept 255 p.nodes (node_of (Repeat k) (p.nodes - 1) 0) nodes
+postfixed_nodes k p nodes = slice_set nodes p.nodes (node_of (Repeat k) (p.nodes - 1) 0)
 
 abbrev pub atom_progress : Progress → Progress
 atom_progress p = piece_end ((started_progress p).nodes + 1) (p.positions + 1) p.choice (started_progress p).sequence
 
 abbrev pub atom_nodes : Progress → List Node → List Node
-atom_nodes p nodes = kept 255 (started_progress p).nodes (node_of Position (p.positions + 1) 0) (started_nodes p nodes)
+atom_nodes p nodes = slice_set (started_nodes p nodes) (started_progress p).nodes (node_of Position (p.positions + 1) 0)
 
 -- All that a reading works with: the memory, the groups that are open with the innermost first, and the
 -- progress.
@@ -133,7 +130,7 @@ module _ {C : Type 0} where
   wrote i (Postfixed k) d =
       on_desk (postfixed_nodes k d.progress d.nodes) d.classes d.groups (postfixed_progress d.progress)
   wrote i (Atom c) d =
-      Ok (desk (atom_nodes d.progress d.nodes) (kept 63 d.progress.positions c d.classes) d.groups (atom_progress d.progress))
+      Ok (desk (atom_nodes d.progress d.nodes) (slice_set d.classes d.progress.positions c) d.groups (atom_progress d.progress))
 
   -- A turn of the program ends as it should: on that desk, or with that refusal.
   abbrev pub EndsOn : Result (Desk C) Refusal → List Node → List C → List Group → Result Progress Refusal → Type 0
@@ -155,16 +152,16 @@ abbrev pub ended : ℕ → List Group → Progress → Result Counts Refused
 ended n [] p = cond p.wanting (refused_at BaseWanted n) (Ok (record { nodes = pattern_count p; positions = p.positions }))
 ended n (g ∷ gs) p = cond p.wanting (refused_at BaseWanted n) (refused_at UnfinishedGroup g.place)
 
--- The first places of the memory, as far as the limit goes, hold the list.
-abbrev pub Begins : {X : Type 0} → ℕ → List X → List X → Type 0
-Begins limit slots l = take limit l ≡ take (length l) (take limit slots)
+-- The memory holds the list from its first place on, as far as both go.
+abbrev pub Begins : {X : Type 0} → List X → List X → Type 0
+Begins slots l = take (length slots) l ≡ take (length l) slots
 
 -- The end of a reading that came to a tree, or to a refusal: the counts and the memory are those of the
 -- tree's node list and leaves; or it is that refusal.
 pub record TreePictured {C : Type 0} (t : Tree C) (r : Result Counts Refused) (nodes : List Node) (classes : List C) : Type 0 where
   pub counts : r ≡ Ok (counts_of t)
-  pub listed : Begins 255 nodes (listing t)
-  pub leaves : Begins 63 classes (leaves t)
+  pub listed : Begins nodes (listing t)
+  pub leaves : Begins classes (leaves t)
 
 abbrev pub EndPictured : {C : Type 0} → Result (Tree C) Refused → Result Counts Refused → List Node → List C → Type 0
 EndPictured (Ok t) r nodes classes = TreePictured t r nodes classes

@@ -38,7 +38,12 @@ pub fn read<K: Kind>(
         return Err(Refusal::MemoryTooShort.at(0));
     }
     let mut stack = Stack::over(groups);
-    let read = read_tokens::<K>(text, nodes, classes, &mut stack);
+    let read = read_tokens::<K>(
+        text,
+        &mut nodes[..MAX_NODES],
+        &mut classes[..MAX_POSITIONS],
+        &mut stack,
+    );
     stack.clear(Group::cleared());
     let outcome = limited(read, text.len());
     let used = outcome.unwrap_or_default();

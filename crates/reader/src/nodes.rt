@@ -1,20 +1,18 @@
-ghost use Rattle.std.specs.Prelude.{◌≡◌, ◌+◌, ◌<◌, ◌≤◌, false, length};
-ghost use Rattle.reader.specs.Writer.{kept, joined_count, joined_nodes, pattern_count, pattern_nodes, started_progress, started_nodes};
+ghost use Rattle.std.specs.Prelude.{◌≡◌, ◌+◌, ◌<◌, ◌≤◌, false, slice_set};
+ghost use Rattle.reader.specs.Writer.{joined_count, joined_nodes, pattern_count, pattern_nodes, started_progress, started_nodes};
 
-use crate::limits::MAX_NODES;
 use crate::records::Progress;
 use trees::{Joiner, Node, NodeKind};
 
 // The counts stay far below what a number holds: a text has 1,024 bytes at most, each token adds two
 // nodes at most, and so does the end.
 
-// Writes an item in its place, while that is below the limit: beyond it, reading goes on without
-// writing, since a fault further right comes before the pattern's size.
-pub(crate) fn keep<T: Copy>(slots: &mut [T], limit: usize, place: usize, item: T)
-    requires { limit ≤ length slots.old }
-    ensures { slots.new ≡ kept limit place item slots.old }
+// Writes an item in its place, if the memory has one: beyond it, reading goes on without writing, since
+// a fault further right comes before the pattern's size.
+pub(crate) fn keep<T: Copy>(slots: &mut [T], place: usize, item: T)
+    ensures { slots.new ≡ slice_set slots.old place item }
 {
-    if place < limit {
+    if place < slots.len() {
         slots[place] = item;
     }
 }
@@ -22,7 +20,6 @@ pub(crate) fn keep<T: Copy>(slots: &mut [T], limit: usize, place: usize, item: T
 // Joins what was written last to the tree before it, if there is one; `left` is the number of nodes up
 // to that tree's root, or 0. Returns the number of nodes then.
 fn join(nodes: &mut [Node], count: usize, joiner: Joiner, left: usize) -> usize
-    requires room { 255 ≤ length nodes.old }
     requires some { 1 ≤ count }
     requires few { count < 4096 }
     ensures count { result ≡ joined_count left count }
@@ -33,7 +30,6 @@ fn join(nodes: &mut [Node], count: usize, joiner: Joiner, left: usize) -> usize
     }
     keep(
         nodes,
-        MAX_NODES,
         count,
         Node::new(NodeKind::Join(joiner), left - 1, count - 1),
     );
@@ -43,7 +39,6 @@ fn join(nodes: &mut [Node], count: usize, joiner: Joiner, left: usize) -> usize
 // Closes the pattern that is being read: its last sequence, then its last choice. Returns the number of
 // nodes then.
 pub(crate) fn end_pattern(nodes: &mut [Node], progress: Progress) -> usize
-    requires room { 255 ≤ length nodes.old }
     requires some { 1 ≤ progress.nodes }
     requires few { progress.nodes < 4095 }
     ensures count { result ≡ pattern_count progress }
@@ -55,7 +50,6 @@ pub(crate) fn end_pattern(nodes: &mut [Node], progress: Progress) -> usize
 
 // Makes one sequence of the pieces read so far, before another base.
 pub(crate) fn start_piece(nodes: &mut [Node], progress: Progress) -> Progress
-    requires room { 255 ≤ length nodes.old }
     requires some { progress.wanting ≡ false → 1 ≤ progress.nodes }
     requires few { progress.nodes < 4096 }
     ensures progress { result ≡ started_progress progress }

@@ -14,7 +14,7 @@ use stack::Stack;
 use trees::Node;
 
 // Reads a whole text, token by token, and says how many nodes and positions it has, or what is wrong
-// with it. Nodes and classes are written as far as the limits go.
+// with it. Nodes and classes are written as far as the memory goes.
 pub(crate) fn read_tokens<K: Kind>(
     text: &[u8],
     nodes: &mut [Node],
@@ -22,8 +22,6 @@ pub(crate) fn read_tokens<K: Kind>(
     groups: &mut Stack<'_, Group>,
 ) -> Result<Counts, Refused>
     requires short { length text.now ≤ 1024 }
-    requires room { 255 ≤ length nodes.old }
-    requires places { 63 ≤ length classes.old }
     requires slots { 32 ≤ length (memory groups.old) }
     requires empty { count groups.old ≡ 0 }
     ensures lent { Same (lent groups.new) (lent groups.old) }

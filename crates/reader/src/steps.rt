@@ -1,9 +1,9 @@
-ghost use Rattle.std.specs.Prelude.{◌≡◌, ◌<◌, ◌≤◌, false, ◌∷◌, length};
+ghost use Rattle.std.specs.Prelude.{◌≡◌, ◌<◌, ◌≤◌, false, ◌∷◌, length, slice_set};
 ghost use Rattle.stack.specs.Lent.{Same};
 ghost use Rattle.stack.specs.Stacked.{lent, memory, stacked};
-ghost use Rattle.reader.specs.Writer.{kept, pattern_nodes, started_nodes, group_count, group_nodes, opened_progress, opened_group, closed_progress, outer_groups, barred_progress, postfixed_progress, postfixed_nodes, atom_progress, atom_nodes, desk, wrote, EndsOn, IfOk, Grown, ended};
+ghost use Rattle.reader.specs.Writer.{pattern_nodes, started_nodes, group_count, group_nodes, opened_progress, opened_group, closed_progress, outer_groups, barred_progress, postfixed_progress, postfixed_nodes, atom_progress, atom_nodes, desk, wrote, EndsOn, IfOk, Grown, ended};
 
-use crate::limits::{MAX_GROUPS, MAX_NODES, MAX_POSITIONS};
+use crate::limits::MAX_GROUPS;
 use crate::nodes::{end_pattern, keep, start_piece};
 use crate::records::{Counts, Group, Progress};
 use crate::token::Token;
@@ -19,7 +19,6 @@ fn open_group(
     progress: Progress,
     place: usize,
 ) -> Result<Progress, Refusal>
-    requires room { 255 ≤ length nodes.old }
     requires slots { 32 ≤ length (memory groups.old) }
     requires some { progress.wanting ≡ false → 1 ≤ progress.nodes }
     requires few { progress.nodes < 4096 }
@@ -49,7 +48,6 @@ fn open_group(
 
 // `|`: what stands before it is closed, and another branch begins.
 fn next_branch(nodes: &mut [Node], progress: Progress) -> Result<Progress, Refusal>
-    requires room { 255 ≤ length nodes.old }
     requires some { progress.wanting ≡ false → 1 ≤ progress.nodes }
     requires few { progress.nodes < 4095 }
     ensures result { result ≡ barred_progress progress }
@@ -74,7 +72,6 @@ fn repeat_piece(
     progress: Progress,
     postfix: Postfix,
 ) -> Result<Progress, Refusal>
-    requires room { 255 ≤ length nodes.old }
     requires some { progress.wanting ≡ false → 1 ≤ progress.nodes }
     requires few { progress.nodes < 4096 }
     ensures result { result ≡ postfixed_progress progress }
@@ -86,7 +83,6 @@ fn repeat_piece(
     let count = progress.nodes;
     keep(
         nodes,
-        MAX_NODES,
         count,
         Node::new(NodeKind::Repeat(postfix), count - 1, 0),
     );
@@ -103,24 +99,21 @@ fn take_atom<C: Copy>(
     progress: Progress,
     class: C,
 ) -> Progress
-    requires room { 255 ≤ length nodes.old }
-    requires places { 63 ≤ length classes.old }
     requires some { progress.wanting ≡ false → 1 ≤ progress.nodes }
     requires few { progress.nodes < 4095 }
     requires counted { progress.positions < 4096 }
     ensures result { result ≡ atom_progress progress }
     ensures nodes { nodes.new ≡ atom_nodes progress nodes.old }
-    ensures classes { classes.new ≡ kept 63 progress.positions class classes.old }
+    ensures classes { classes.new ≡ slice_set classes.old progress.positions class }
 {
     let started = start_piece(nodes, progress);
     let position = progress.positions + 1;
     keep(
         nodes,
-        MAX_NODES,
         started.nodes,
         Node::new(NodeKind::Position, position, 0),
     );
-    keep(classes, MAX_POSITIONS, progress.positions, class);
+    keep(classes, progress.positions, class);
     Progress {
         nodes: started.nodes + 1,
         positions: position,
@@ -131,7 +124,6 @@ fn take_atom<C: Copy>(
 
 // What stands in a group is closed, or is the empty word. Returns the number of nodes then.
 fn end_group(nodes: &mut [Node], progress: Progress) -> Result<usize, Refusal>
-    requires room { 255 ≤ length nodes.old }
     requires some { progress.wanting ≡ false → 1 ≤ progress.nodes }
     requires few { progress.nodes < 4095 }
     ensures result { result ≡ group_count progress }
@@ -143,12 +135,7 @@ fn end_group(nodes: &mut [Node], progress: Progress) -> Result<usize, Refusal>
     if progress.choice != 0 {
         return Err(Refusal::BaseWanted);
     }
-    keep(
-        nodes,
-        MAX_NODES,
-        progress.nodes,
-        Node::new(NodeKind::Empty, 0, 0),
-    );
+    keep(nodes, progress.nodes, Node::new(NodeKind::Empty, 0, 0));
     Ok(progress.nodes + 1)
 }
 
@@ -158,7 +145,6 @@ fn close_group(
     groups: &mut Stack<'_, Group>,
     progress: Progress,
 ) -> Result<Progress, Refusal>
-    requires room { 255 ≤ length nodes.old }
     requires some { progress.wanting ≡ false → 1 ≤ progress.nodes }
     requires few { progress.nodes < 4095 }
     ensures lent { Same (lent groups.new) (lent groups.old) }
@@ -188,8 +174,6 @@ pub(crate) fn take_token<C: Copy>(
     place: usize,
     token: Token<C>,
 ) -> Result<Progress, Refusal>
-    requires room { 255 ≤ length nodes.old }
-    requires places { 63 ≤ length classes.old }
     requires slots { 32 ≤ length (memory groups.old) }
     requires some { progress.wanting ≡ false → 1 ≤ progress.nodes }
     requires few { progress.nodes < 4095 }
@@ -214,7 +198,6 @@ pub(crate) fn finish(
     progress: Progress,
     end: usize,
 ) -> Result<Counts, Refused>
-    requires room { 255 ≤ length nodes.old }
     requires some { progress.wanting ≡ false → 1 ≤ progress.nodes }
     requires few { progress.nodes < 4095 }
     ensures lent { Same (lent groups.new) (lent groups.old) }

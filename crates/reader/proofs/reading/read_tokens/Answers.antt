@@ -17,7 +17,7 @@ loop-place-init g c =
     let empty = ap (held (memory s)) c.requires.empty ∙ held_none (memory s) in (
       record { at = refl; long = refl },
       reached_start g.K.Kind.reading c.args.text.now c.args.nodes.now c.args.classes.now
-          (stacked s) empty c.requires.room c.requires.places,
+          (stacked s) empty,
     )
 
 pub returns-in_err-cut-clause-read : goal.returns-in_err-cut-clause-read
