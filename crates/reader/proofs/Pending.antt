@@ -6,7 +6,8 @@ use Rattle.trees.specs.Listing.{Tree, leaves, past, numbered, root, listed}
 use Rattle.reader.specs.declared.records.Group.{Group}
 use Rattle.reader.specs.declared.records.Progress.{Progress}
 use Rattle.reader.specs.Machine.{Part, wanted, holds, Frame, frame, Turn, goes, stops}
-use Rattle.reader.specs.Writer.{Desk, Begins}
+use Rattle.reader.specs.Desk.{Desk}
+use Rattle.reader.specs.Writer.{Begins}
 
 -- How the program's memory pictures the trees of a reading.
 

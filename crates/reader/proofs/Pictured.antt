@@ -1,4 +1,4 @@
-use Rattle.std.proofs.Common.{◌≡◌, ℕ, suc, ◌<◌, true, List, [], ◌∷◌, length, set, sym, refl, ap, ◌∙◌, subst, ap₂, append-nil, add-one, arith, length-append, le-ltb, lt-ltb}
+use Rattle.std.proofs.Common.{◌≡◌, ℕ, suc, ◌<◌, List, [], ◌∷◌, length, set, sym, refl, ap, ◌∙◌, subst, ap₂, append-nil, add-one, arith, length-append, le-ltb, lt-ltb}
 use mathlib.Core.Option.{Option, some, none}
 use native.Mathlib.Decide.{dec_lt}
 use Rattle.std.proofs.Math.Seq.{take-nil}
@@ -10,7 +10,8 @@ use Rattle.reader.specs.declared.token.Token.{Token}
 use Rattle.reader.specs.declared.token.Token.TheVariants.{Open, Close, Bar, Repeat, Atom}
 use Rattle.reader.specs.Tokens.{text_ends}
 use Rattle.reader.specs.Machine.{Part, wanted, holds, Frame, frame, joined, before, whole, opened, shut, barred, postfixed, step, finish}
-use Rattle.reader.specs.Writer.{Desk, joined_count, pattern_count, pattern_nodes, started_progress, started_nodes, atom_progress, atom_nodes, desk, wrote, ended, EndPictured}
+use Rattle.reader.specs.Desk.{Desk, desk, fresh}
+use Rattle.reader.specs.Writer.{joined_count, pattern_count, pattern_nodes, started_progress, started_nodes, atom_progress, atom_nodes, wrote, ended, EndPictured}
 use Rattle.reader.proofs.Pending.{next_position, next_node, leaves_of, also, pending_outer, pending, link, records, progress_of, Pictured, TurnPictured}
 use Rattle.reader.proofs.Stored.{not_zero, laid_size, Stored, empty_stored, repeat_stored, atom_stored, joined_stored, count_of_joined, joined_leaves}
 
@@ -185,7 +186,6 @@ module _ {C : Type 0} where
       subst (λ e. EndPictured (finish (text_ends n) st alts part) (ended n e.groups e.progress) (pattern_nodes e.progress e.nodes) e.classes)
       (desk_same st alts part d p) (finish_pictured n st alts part d.nodes d.classes (stored st alts part d p))
 
-  pub start_pictured : (nodes : List Node) (classes : List C) → Pictured [] none wanted
-      (desk nodes classes [] (record { nodes = 0; positions = 0; choice = 0; sequence = 0; wanting = true }))
+  pub start_pictured : (nodes : List Node) (classes : List C) → Pictured [] none wanted (fresh nodes classes)
   start_pictured nodes classes =
       record { progress = refl; groups = refl; nodes = take-nil (length nodes); classes = take-nil (length classes) }

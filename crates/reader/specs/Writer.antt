@@ -1,4 +1,4 @@
-use Rattle.std.specs.Prelude.{◌≡◌, ℕ, ◌+◌, ◌-◌, ◌≤◌, true, false, cond, ◌||◌, List, [], ◌∷◌, length, take, Ok, Err, Result, ◌==◌, nat_lt, slice_set}
+use Rattle.std.specs.Prelude.{◌≡◌, ℕ, ◌+◌, ◌-◌, true, false, cond, ◌||◌, List, [], ◌∷◌, length, take, Ok, Err, Result, ◌==◌, nat_lt, slice_set}
 use Rattle.kinds.specs.declared.Refused.{Refused}
 use Rattle.kinds.specs.declared.Refusal.{Refusal}
 use Rattle.kinds.specs.declared.Refusal.TheVariants.{BaseWanted, NoOpenGroup, UnfinishedGroup, TooManyGroups, PatternTooLarge}
@@ -16,6 +16,7 @@ use Rattle.reader.specs.declared.records.Group.{Group}
 use Rattle.reader.specs.declared.records.Progress.{Progress}
 use Rattle.reader.specs.declared.records.Counts.{Counts}
 use Rattle.reader.specs.Call.{counts_of}
+use Rattle.reader.specs.Desk.{Desk, desk, with_nodes}
 
 -- What the program's own steps do with its memory; no promise to callers speaks of this. Where memory
 -- has no place n, a write there leaves it as it is.
@@ -103,49 +104,69 @@ atom_progress p = piece_end ((started_progress p).nodes + 1) (p.positions + 1) p
 abbrev pub atom_nodes : Progress → List Node → List Node
 atom_nodes p nodes = slice_set (started_nodes p nodes) (started_progress p).nodes (node_of Position (p.positions + 1) 0)
 
--- All that a reading works with: the memory, the groups that are open with the innermost first, and the
--- progress.
-pub record Desk (C : Type 0) : Type 0 where
-  pub nodes : List Node
-  pub classes : List C
-  pub groups : List Group
-  pub progress : Progress
-
 module _ {C : Type 0} where
-  abbrev pub desk : List Node → List C → List Group → Progress → Desk C
-  desk nodes classes groups p = record { nodes = nodes; classes = classes; groups = groups; progress = p }
+  -- One more node; a joiner; the pattern closed; the pieces made one sequence.
+  abbrev pub adds : Node → Desk C → Desk C
+  adds item d = with_nodes (slice_set d.nodes d.progress.nodes item) (d.progress.nodes + 1) d
 
+  abbrev pub joins : Joiner → ℕ → Desk C → Desk C
+  joins j left d = with_nodes (joined_nodes j left d.progress.nodes d.nodes) (joined_count left d.progress.nodes) d
+
+  abbrev pub ends_pattern : Desk C → Desk C
+  ends_pattern d = with_nodes (pattern_nodes d.progress d.nodes) (pattern_count d.progress) d
+
+  abbrev pub starts_piece : Desk C → Desk C
+  starts_piece d = desk (started_nodes d.progress d.nodes) d.classes d.groups (started_progress d.progress)
+
+  -- What stands in a group closed, if it can be.
+  abbrev pub with_count : List Node → Result ℕ Refusal → Desk C → Result (Desk C) Refusal
+  with_count nodes (Ok n) d = Ok (with_nodes nodes n d)
+  with_count nodes (Err why) d = Err why
+
+  abbrev pub ends_group : Desk C → Result (Desk C) Refusal
+  ends_group d = with_count (group_nodes d.progress d.nodes) (group_count d.progress) d
+
+  -- What each token does, the first at place i.
   abbrev pub on_desk : List Node → List C → List Group → Result Progress Refusal → Result (Desk C) Refusal
   on_desk nodes classes groups (Ok p) = Ok (desk nodes classes groups p)
   on_desk nodes classes groups (Err why) = Err why
 
-  -- One token at place i.
-  abbrev pub wrote : ℕ → Token C → Desk C → Result (Desk C) Refusal
-  wrote i Open d =
+  abbrev pub opens : ℕ → Desk C → Result (Desk C) Refusal
+  opens i d =
       on_desk (started_nodes d.progress d.nodes) d.classes (opened_group i d.progress ∷ d.groups)
       (opened_progress (length d.groups) d.progress)
-  wrote i Close d =
-      on_desk (group_nodes d.progress d.nodes) d.classes (outer_groups d.groups) (closed_progress d.groups d.progress)
-  wrote i Bar d = on_desk (pattern_nodes d.progress d.nodes) d.classes d.groups (barred_progress d.progress)
-  wrote i (Postfixed k) d =
-      on_desk (postfixed_nodes k d.progress d.nodes) d.classes d.groups (postfixed_progress d.progress)
-  wrote i (Atom c) d =
-      Ok (desk (atom_nodes d.progress d.nodes) (slice_set d.classes d.progress.positions c) d.groups (atom_progress d.progress))
 
-  -- A turn of the program ends as it should: on that desk, or with that refusal.
-  abbrev pub EndsOn : Result (Desk C) Refusal → List Node → List C → List Group → Result Progress Refusal → Type 0
-  EndsOn o nodes classes groups (Ok q) = o ≡ Ok (desk nodes classes groups q)
-  EndsOn o nodes classes groups (Err why) = o ≡ Err why
+  abbrev pub closes : Desk C → Result (Desk C) Refusal
+  closes d =
+      on_desk (group_nodes d.progress d.nodes) d.classes (outer_groups d.groups) (closed_progress d.groups d.progress)
+
+  abbrev pub bars : Desk C → Result (Desk C) Refusal
+  bars d = on_desk (pattern_nodes d.progress d.nodes) d.classes d.groups (barred_progress d.progress)
+
+  abbrev pub repeats : Postfix → Desk C → Result (Desk C) Refusal
+  repeats k d = on_desk (postfixed_nodes k d.progress d.nodes) d.classes d.groups (postfixed_progress d.progress)
+
+  abbrev pub takes : C → Desk C → Desk C
+  takes c d =
+      desk (atom_nodes d.progress d.nodes) (slice_set d.classes d.progress.positions c) d.groups (atom_progress d.progress)
+
+  -- One token at place i.
+  abbrev pub wrote : ℕ → Token C → Desk C → Result (Desk C) Refusal
+  wrote i Open d = opens i d
+  wrote i Close d = closes d
+  wrote i Bar d = bars d
+  wrote i (Postfixed k) d = repeats k d
+  wrote i (Atom c) d = Ok (takes c d)
+
+  -- A step ends as it should: on that desk, or with that refusal.
+  abbrev pub EndsOn : Result (Desk C) Refusal → Desk C → Result (Unit {0}) Refusal → Type 0
+  EndsOn o d (Ok _) = o ≡ Ok d
+  EndsOn o d (Err why) = o ≡ Err why
 
 -- Something that holds when a turn goes on.
 abbrev pub IfOk : {X Y : Type 0} → Result X Y → Type 0 → Type 0
 IfOk (Ok x) A = A
 IfOk (Err y) A = Unit {0}
-
--- A turn adds two nodes and one position at most.
-abbrev pub Grown : Progress → Result Progress Refusal → Type 0
-Grown p (Ok q) = (q.nodes ≤ p.nodes + 2) × (q.positions ≤ p.positions + 1)
-Grown p (Err why) = Unit {0}
 
 -- The end of a text of n bytes: the counts, when no base is wanted and no group open.
 abbrev pub ended : ℕ → List Group → Progress → Result Counts Refused

@@ -8,7 +8,7 @@ ghost use Rattle.reader.specs.Call.{ReadCall};
 ghost use Rattle.reader.specs.Writer.{limited_counts};
 
 use crate::limits::{MAX_GROUPS, MAX_NODES, MAX_POSITIONS, MAX_TEXT};
-use crate::reading::read_tokens;
+use crate::reading::read_text;
 use crate::records::{Counts, Group};
 use kinds::{Kind, Refusal, Refused};
 use stack::{Stack, clear_from};
@@ -20,6 +20,7 @@ mod reading;
 pub mod records;
 mod steps;
 pub mod token;
+mod writer;
 
 // Reads a pattern's text: the tree's node list and the classes of its positions are left in the lent
 // memory, and cleared records beyond them. The group records are for the reading alone.
@@ -38,7 +39,7 @@ pub fn read<K: Kind>(
         return Err(Refusal::MemoryTooShort.at(0));
     }
     let mut stack = Stack::over(groups);
-    let read = read_tokens::<K>(
+    let read = read_text::<K>(
         text,
         &mut nodes[..MAX_NODES],
         &mut classes[..MAX_POSITIONS],

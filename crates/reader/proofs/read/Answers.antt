@@ -48,19 +48,19 @@ returns g c =
       classes = c.if-classes-lt-MAX_POSITIONS.false;
       groups = c.if-groups-lt-MAX_GROUPS.false;
     } in
-    let first = c.read_tokens-read.new.nodes in
+    let first = c.read_text-read.new.nodes in
     let beyond = drop 255 nodes in
-    let given = c.read_tokens-read.new.classes in
+    let given = c.read_text-read.new.classes in
     let others = drop 63 classes in
     let used : c.unwrap_or_default-used.result ≡ used_by c.limited-outcome.result = used_is _ (λ v p. search rules) c.limited-outcome.result _ c.unwrap_or_default-used.ensures in
-    let long = c.read_tokens-read.ensures.lent.long ∙ c.over-stack.ensures.lent.long in
-    let first_room : length first ≡ 255 = c.read_tokens-read.auto.nodes ∙ length-take-le 255 nodes c.if-nodes-lt-MAX_NODES.false in
+    let long = c.read_text-read.ensures.lent.long ∙ c.over-stack.ensures.lent.long in
+    let first_room : length first ≡ 255 = c.read_text-read.auto.nodes ∙ length-take-le 255 nodes c.if-nodes-lt-MAX_NODES.false in
     let node_room : length (first ++ beyond) ≡ length nodes = search (rules, places) in
-    let given_room : length given ≡ 63 = c.read_tokens-read.auto.classes ∙ length-take-le 63 classes c.if-classes-lt-MAX_POSITIONS.false in
+    let given_room : length given ≡ 63 = c.read_text-read.auto.classes ∙ length-take-le 63 classes c.if-classes-lt-MAX_POSITIONS.false in
     let class_room : length (given ++ others) ≡ length classes = search (rules, places) in
     read_call g.K.Kind.reading g.K.Kind.cleared text nodes classes groups (λ i h. g.met.K.Kind.within text i h)
-    c.read_tokens-read.result c.limited-outcome.result first beyond c.clear_from.new.slots given others c.clear_from-2.new.slots _
-    (early_none text _ ready) first_room node_room given_room class_room c.read_tokens-read.ensures.read c.limited-outcome.ensures
+    c.read_text-read.result c.limited-outcome.result first beyond c.clear_from.new.slots given others c.clear_from-2.new.slots _
+    (early_none text _ ready) first_room node_room given_room class_room c.read_text-read.ensures.read c.limited-outcome.ensures
     (c.clear_from.ensures ∙ ap (λ b. cleared_from c.unwrap_or_default-used.result.nodes b (first ++ beyond)) c.cleared-2.ensures ∙ ap (λ u. cleared_from u.nodes cleared_node (first ++ beyond)) used)
     (c.clear_from-2.ensures ∙ ap (λ b. cleared_from c.unwrap_or_default-used.result.positions b (given ++ others)) c.cleared_class.ensures ∙ ap (λ u. cleared_from u.positions g.K.Kind.cleared (given ++ others)) used)
     (search rules)
