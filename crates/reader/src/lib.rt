@@ -57,10 +57,9 @@ pub fn read<K: Kind>(
 fn limited(read: Result<Counts, Refused>, end: usize) -> Result<Counts, Refused>
     ensures { result ≡ limited_counts end read }
 {
-    match read {
-        Ok(counts) if counts.positions > MAX_POSITIONS || counts.nodes > MAX_NODES => Err(
-            Refusal::PatternTooLarge.at(end),
-        ),
-        other => other,
+    let counts = read?;
+    if counts.positions > MAX_POSITIONS || counts.nodes > MAX_NODES {
+        return Err(Refusal::PatternTooLarge.at(end));
     }
+    Ok(counts)
 }
