@@ -1,4 +1,4 @@
-use Rattle.std.proofs.Common.{◌≡◌, ℕ, suc, ◌≤◌, Bool, true, false, List, [], ◌∷◌, ◌++◌, length, Ok, Err, Result}
+use Rattle.std.proofs.Common.{◌≡◌, ℕ, suc, Bool, true, false, List, [], ◌∷◌, ◌++◌, length, Ok, Err, Result}
 use mathlib.Core.Option.{Option, some, none}
 use Rattle.kinds.specs.declared.Refusal.{Refusal}
 use Rattle.trees.specs.declared.Node.{Node}
@@ -6,7 +6,8 @@ use Rattle.trees.specs.Listing.{Tree, leaves, past, numbered, root, listed}
 use Rattle.reader.specs.declared.records.Group.{Group}
 use Rattle.reader.specs.declared.records.Progress.{Progress}
 use Rattle.reader.specs.Machine.{Part, wanted, holds, Frame, frame, Turn, goes, stops}
-use Rattle.reader.specs.Writer.{Desk, Begins}
+use Rattle.reader.specs.Desk.{Desk}
+use Rattle.reader.specs.Writer.{Begins}
 
 -- How the program's memory pictures the trees of a reading.
 
@@ -75,10 +76,8 @@ module _ {C : Type 0} where
   pub record Pictured (st : List (Frame C)) (alts : Option (Tree C)) (part : Part C) (d : Desk C) : Type 0 where
     pub progress : d.progress ≡ progress_of st alts part
     pub groups : d.groups ≡ records st
-    pub nodes : Begins 255 d.nodes (laid (pending st alts part))
-    pub classes : Begins 63 d.classes (leaves_of (pending st alts part))
-    pub node_room : 255 ≤ length d.nodes
-    pub class_room : 63 ≤ length d.classes
+    pub nodes : Begins d.nodes (laid (pending st alts part))
+    pub classes : Begins d.classes (leaves_of (pending st alts part))
 
   -- A turn of the machine and a turn of the program: both go on, pictured, or both stop for one reason.
   abbrev pub TurnPictured : Turn C → Result (Desk C) Refusal → Type 0

@@ -1,6 +1,7 @@
-use Rattle.std.proofs.Common.{◌≡◌, ℕ, suc, ◌<◌, ◌≤◌, true, List, [], ◌∷◌, length, sym, refl, ap, ◌∙◌, subst, ap₂, append-nil, add-one, arith, length-append, le-ltb, lt-ltb}
+use Rattle.std.proofs.Common.{◌≡◌, ℕ, suc, ◌<◌, List, [], ◌∷◌, length, set, sym, refl, ap, ◌∙◌, subst, ap₂, append-nil, add-one, arith, length-append, le-ltb, lt-ltb}
 use mathlib.Core.Option.{Option, some, none}
 use native.Mathlib.Decide.{dec_lt}
+use Rattle.std.proofs.Math.Seq.{take-nil}
 use Rattle.trees.specs.declared.Joiner.TheVariants.{Sequence, Choice}
 use Rattle.trees.specs.declared.Postfix.{Postfix}
 use Rattle.trees.specs.declared.Node.{Node}
@@ -9,7 +10,8 @@ use Rattle.reader.specs.declared.token.Token.{Token}
 use Rattle.reader.specs.declared.token.Token.TheVariants.{Open, Close, Bar, Repeat, Atom}
 use Rattle.reader.specs.Tokens.{text_ends}
 use Rattle.reader.specs.Machine.{Part, wanted, holds, Frame, frame, joined, before, whole, opened, shut, barred, postfixed, step, finish}
-use Rattle.reader.specs.Writer.{Desk, joined_count, pattern_count, pattern_nodes, started_progress, started_nodes, atom_progress, atom_nodes, kept, desk, wrote, ended, EndPictured}
+use Rattle.reader.specs.Desk.{Desk, desk, fresh}
+use Rattle.reader.specs.Writer.{joined_count, pattern_count, pattern_nodes, started_progress, started_nodes, atom_progress, atom_nodes, wrote, ended, EndPictured}
 use Rattle.reader.proofs.Pending.{next_position, next_node, leaves_of, also, pending_outer, pending, link, records, progress_of, Pictured, TurnPictured}
 use Rattle.reader.proofs.Stored.{not_zero, laid_size, Stored, empty_stored, repeat_stored, atom_stored, joined_stored, count_of_joined, joined_leaves}
 
@@ -29,14 +31,12 @@ module _ {C : Type 0} where
         groups = g;
         nodes = s.nodes_kept;
         classes = s.leaves_kept;
-        node_room = s.node_room;
-        class_room = s.class_room;
       }
 
   stored : (st : List (Frame C)) (alts : Option (Tree C)) (part : Part C) (d : Desk C)
       → Pictured st alts part d → Stored (pending st alts part) d.nodes d.classes
   stored st alts part d p =
-      record { nodes_kept = p.nodes; leaves_kept = p.classes; node_room = p.node_room; class_room = p.class_room }
+      record { nodes_kept = p.nodes; leaves_kept = p.classes }
 
   desk_same : (st : List (Frame C)) (alts : Option (Tree C)) (part : Part C) (d : Desk C)
       → Pictured st alts part d → desk_of st alts part d.nodes d.classes ≡ d
@@ -139,7 +139,7 @@ module _ {C : Type 0} where
 
   atom_pictured : (c : C) (st : List (Frame C)) (alts : Option (Tree C)) (part : Part C) (nodes : List Node) (classes : List C)
       → Stored (pending st alts part) nodes classes
-      → Pictured st alts (holds (before part) (leaf c)) (desk (atom_nodes (progress_of st alts part) nodes) (kept 63 (progress_of st alts part).positions c classes) (records st) (atom_progress (progress_of st alts part)))
+      → Pictured st alts (holds (before part) (leaf c)) (desk (atom_nodes (progress_of st alts part) nodes) (set classes (progress_of st alts part).positions c) (records st) (atom_progress (progress_of st alts part)))
   unfolding leaves numbered root
   atom_pictured c st alts part nodes classes s =
       let outer = also (before part) (also alts (pending_outer st)) in
@@ -186,8 +186,6 @@ module _ {C : Type 0} where
       subst (λ e. EndPictured (finish (text_ends n) st alts part) (ended n e.groups e.progress) (pattern_nodes e.progress e.nodes) e.classes)
       (desk_same st alts part d p) (finish_pictured n st alts part d.nodes d.classes (stored st alts part d p))
 
-  pub start_pictured : (nodes : List Node) (classes : List C) → 255 ≤ length nodes → 63 ≤ length classes
-      → Pictured [] none wanted
-      (desk nodes classes [] (record { nodes = 0; positions = 0; choice = 0; sequence = 0; wanting = true }))
-  start_pictured nodes classes node_room class_room =
-      record { progress = refl; groups = refl; nodes = refl; classes = refl; node_room = node_room; class_room = class_room }
+  pub start_pictured : (nodes : List Node) (classes : List C) → Pictured [] none wanted (fresh nodes classes)
+  start_pictured nodes classes =
+      record { progress = refl; groups = refl; nodes = take-nil (length nodes); classes = take-nil (length classes) }

@@ -5,4 +5,5 @@ pub mod Machine
 pub mod Outcome
 pub mod Law
 pub mod Call
+pub mod Desk
 pub mod Writer

@@ -1,4 +1,4 @@
-use Rattle.std.specs.Prelude.{◌≡◌, ℕ, ◌+◌, ◌-◌, ◌≤◌, true, false, cond, ◌||◌, List, [], ◌∷◌, length, take, Ok, Err, Result, ◌==◌, nat_lt, slice_set}
+use Rattle.std.specs.Prelude.{◌≡◌, ℕ, ◌+◌, ◌-◌, true, false, cond, ◌||◌, List, [], ◌∷◌, length, take, Ok, Err, Result, ◌==◌, nat_lt, slice_set}
 use Rattle.kinds.specs.declared.Refused.{Refused}
 use Rattle.kinds.specs.declared.Refusal.{Refusal}
 use Rattle.kinds.specs.declared.Refusal.TheVariants.{BaseWanted, NoOpenGroup, UnfinishedGroup, TooManyGroups, PatternTooLarge}
@@ -16,12 +16,10 @@ use Rattle.reader.specs.declared.records.Group.{Group}
 use Rattle.reader.specs.declared.records.Progress.{Progress}
 use Rattle.reader.specs.declared.records.Counts.{Counts}
 use Rattle.reader.specs.Call.{counts_of}
+use Rattle.reader.specs.Desk.{Desk, desk, with_nodes}
 
--- What the program's own steps do with its memory; no promise to callers speaks of this.
-
--- Memory with an item in place n, if n is below the limit.
-abbrev pub kept : {X : Type 0} → ℕ → ℕ → X → List X → List X
-kept limit n item slots = cond (nat_lt n limit) (slice_set slots n item) slots
+-- What the program's own steps do with its memory; no promise to callers speaks of this. Where memory
+-- has no place n, a write there leaves it as it is.
 
 -- A joiner of the left operand and what was written last, if there is a left operand: how many nodes
 -- there are then, and what the memory holds.
@@ -29,7 +27,7 @@ abbrev pub joined_count : ℕ → ℕ → ℕ
 joined_count left n = cond (left == 0) n (n + 1)
 
 abbrev pub joined_nodes : Joiner → ℕ → ℕ → List Node → List Node
-joined_nodes j left n nodes = cond (left == 0) nodes (kept 255 n (node_of (Join j) (left - 1) (n - 1)) nodes)
+joined_nodes j left n nodes = cond (left == 0) nodes (slice_set nodes n (node_of (Join j) (left - 1) (n - 1)))
 
 -- The whole pattern that is being read, closed: its last sequence, then its last choice.
 abbrev pub pattern_count : Progress → ℕ
@@ -45,7 +43,7 @@ group_count p =
     cond p.wanting (cond (p.choice == 0) (Ok (p.nodes + 1)) (Err BaseWanted)) (Ok (pattern_count p))
 
 abbrev pub group_nodes : Progress → List Node → List Node
-group_nodes p nodes = cond p.wanting (kept 255 p.nodes (node_of Empty 0 0) nodes) (pattern_nodes p nodes)
+group_nodes p nodes = cond p.wanting (slice_set nodes p.nodes (node_of Empty 0 0)) (pattern_nodes p nodes)
 
 -- Before a base, the pieces read so far become one sequence.
 abbrev pub started_progress : Progress → Progress
@@ -98,73 +96,93 @@ postfixed_progress p =
     cond p.wanting (Err BaseWanted) (Ok (piece_end (p.nodes + 1) p.positions p.choice p.sequence))
 
 abbrev pub postfixed_nodes : Postfix → Progress → List Node → List Node
-postfixed_nodes k p nodes = kept 255 p.nodes (node_of (Repeat k) (p.nodes - 1) 0) nodes
+postfixed_nodes k p nodes = slice_set nodes p.nodes (node_of (Repeat k) (p.nodes - 1) 0)
 
 abbrev pub atom_progress : Progress → Progress
 atom_progress p = piece_end ((started_progress p).nodes + 1) (p.positions + 1) p.choice (started_progress p).sequence
 
 abbrev pub atom_nodes : Progress → List Node → List Node
-atom_nodes p nodes = kept 255 (started_progress p).nodes (node_of Position (p.positions + 1) 0) (started_nodes p nodes)
-
--- All that a reading works with: the memory, the groups that are open with the innermost first, and the
--- progress.
-pub record Desk (C : Type 0) : Type 0 where
-  pub nodes : List Node
-  pub classes : List C
-  pub groups : List Group
-  pub progress : Progress
+atom_nodes p nodes = slice_set (started_nodes p nodes) (started_progress p).nodes (node_of Position (p.positions + 1) 0)
 
 module _ {C : Type 0} where
-  abbrev pub desk : List Node → List C → List Group → Progress → Desk C
-  desk nodes classes groups p = record { nodes = nodes; classes = classes; groups = groups; progress = p }
+  -- One more node; a joiner; the pattern closed; the pieces made one sequence.
+  abbrev pub adds : Node → Desk C → Desk C
+  adds item d = with_nodes (slice_set d.nodes d.progress.nodes item) (d.progress.nodes + 1) d
 
+  abbrev pub joins : Joiner → ℕ → Desk C → Desk C
+  joins j left d = with_nodes (joined_nodes j left d.progress.nodes d.nodes) (joined_count left d.progress.nodes) d
+
+  abbrev pub ends_pattern : Desk C → Desk C
+  ends_pattern d = with_nodes (pattern_nodes d.progress d.nodes) (pattern_count d.progress) d
+
+  abbrev pub starts_piece : Desk C → Desk C
+  starts_piece d = desk (started_nodes d.progress d.nodes) d.classes d.groups (started_progress d.progress)
+
+  -- What stands in a group closed, if it can be.
+  abbrev pub with_count : List Node → Result ℕ Refusal → Desk C → Result (Desk C) Refusal
+  with_count nodes (Ok n) d = Ok (with_nodes nodes n d)
+  with_count nodes (Err why) d = Err why
+
+  abbrev pub ends_group : Desk C → Result (Desk C) Refusal
+  ends_group d = with_count (group_nodes d.progress d.nodes) (group_count d.progress) d
+
+  -- What each token does, the first at place i.
   abbrev pub on_desk : List Node → List C → List Group → Result Progress Refusal → Result (Desk C) Refusal
   on_desk nodes classes groups (Ok p) = Ok (desk nodes classes groups p)
   on_desk nodes classes groups (Err why) = Err why
 
-  -- One token at place i.
-  abbrev pub wrote : ℕ → Token C → Desk C → Result (Desk C) Refusal
-  wrote i Open d =
+  abbrev pub opens : ℕ → Desk C → Result (Desk C) Refusal
+  opens i d =
       on_desk (started_nodes d.progress d.nodes) d.classes (opened_group i d.progress ∷ d.groups)
       (opened_progress (length d.groups) d.progress)
-  wrote i Close d =
-      on_desk (group_nodes d.progress d.nodes) d.classes (outer_groups d.groups) (closed_progress d.groups d.progress)
-  wrote i Bar d = on_desk (pattern_nodes d.progress d.nodes) d.classes d.groups (barred_progress d.progress)
-  wrote i (Postfixed k) d =
-      on_desk (postfixed_nodes k d.progress d.nodes) d.classes d.groups (postfixed_progress d.progress)
-  wrote i (Atom c) d =
-      Ok (desk (atom_nodes d.progress d.nodes) (kept 63 d.progress.positions c d.classes) d.groups (atom_progress d.progress))
 
-  -- A turn of the program ends as it should: on that desk, or with that refusal.
-  abbrev pub EndsOn : Result (Desk C) Refusal → List Node → List C → List Group → Result Progress Refusal → Type 0
-  EndsOn o nodes classes groups (Ok q) = o ≡ Ok (desk nodes classes groups q)
-  EndsOn o nodes classes groups (Err why) = o ≡ Err why
+  abbrev pub closes : Desk C → Result (Desk C) Refusal
+  closes d =
+      on_desk (group_nodes d.progress d.nodes) d.classes (outer_groups d.groups) (closed_progress d.groups d.progress)
+
+  abbrev pub bars : Desk C → Result (Desk C) Refusal
+  bars d = on_desk (pattern_nodes d.progress d.nodes) d.classes d.groups (barred_progress d.progress)
+
+  abbrev pub repeats : Postfix → Desk C → Result (Desk C) Refusal
+  repeats k d = on_desk (postfixed_nodes k d.progress d.nodes) d.classes d.groups (postfixed_progress d.progress)
+
+  abbrev pub takes : C → Desk C → Desk C
+  takes c d =
+      desk (atom_nodes d.progress d.nodes) (slice_set d.classes d.progress.positions c) d.groups (atom_progress d.progress)
+
+  -- One token at place i.
+  abbrev pub wrote : ℕ → Token C → Desk C → Result (Desk C) Refusal
+  wrote i Open d = opens i d
+  wrote i Close d = closes d
+  wrote i Bar d = bars d
+  wrote i (Postfixed k) d = repeats k d
+  wrote i (Atom c) d = Ok (takes c d)
+
+  -- A step ends as it should: on that desk, or with that refusal.
+  abbrev pub EndsOn : Result (Desk C) Refusal → Desk C → Result (Unit {0}) Refusal → Type 0
+  EndsOn o d (Ok _) = o ≡ Ok d
+  EndsOn o d (Err why) = o ≡ Err why
 
 -- Something that holds when a turn goes on.
 abbrev pub IfOk : {X Y : Type 0} → Result X Y → Type 0 → Type 0
 IfOk (Ok x) A = A
 IfOk (Err y) A = Unit {0}
 
--- A turn adds two nodes and one position at most.
-abbrev pub Grown : Progress → Result Progress Refusal → Type 0
-Grown p (Ok q) = (q.nodes ≤ p.nodes + 2) × (q.positions ≤ p.positions + 1)
-Grown p (Err why) = Unit {0}
-
 -- The end of a text of n bytes: the counts, when no base is wanted and no group open.
 abbrev pub ended : ℕ → List Group → Progress → Result Counts Refused
 ended n [] p = cond p.wanting (refused_at BaseWanted n) (Ok (record { nodes = pattern_count p; positions = p.positions }))
 ended n (g ∷ gs) p = cond p.wanting (refused_at BaseWanted n) (refused_at UnfinishedGroup g.place)
 
--- The first places of the memory, as far as the limit goes, hold the list.
-abbrev pub Begins : {X : Type 0} → ℕ → List X → List X → Type 0
-Begins limit slots l = take limit l ≡ take (length l) (take limit slots)
+-- The memory holds the list from its first place on, as far as both go.
+abbrev pub Begins : {X : Type 0} → List X → List X → Type 0
+Begins slots l = take (length slots) l ≡ take (length l) slots
 
 -- The end of a reading that came to a tree, or to a refusal: the counts and the memory are those of the
 -- tree's node list and leaves; or it is that refusal.
 pub record TreePictured {C : Type 0} (t : Tree C) (r : Result Counts Refused) (nodes : List Node) (classes : List C) : Type 0 where
   pub counts : r ≡ Ok (counts_of t)
-  pub listed : Begins 255 nodes (listing t)
-  pub leaves : Begins 63 classes (leaves t)
+  pub listed : Begins nodes (listing t)
+  pub leaves : Begins classes (leaves t)
 
 abbrev pub EndPictured : {C : Type 0} → Result (Tree C) Refused → Result Counts Refused → List Node → List C → Type 0
 EndPictured (Ok t) r nodes classes = TreePictured t r nodes classes

@@ -5,10 +5,10 @@
 
 ghost use Rattle.std.specs.Prelude.{◌≡◌};
 ghost use Rattle.reader.specs.Call.{ReadCall};
-ghost use Rattle.reader.specs.Writer.{limited_counts, used_by};
+ghost use Rattle.reader.specs.Writer.{limited_counts};
 
 use crate::limits::{MAX_GROUPS, MAX_NODES, MAX_POSITIONS, MAX_TEXT};
-use crate::reading::read_tokens;
+use crate::reading::read_text;
 use crate::records::{Counts, Group};
 use kinds::{Kind, Refusal, Refused};
 use stack::{Stack, clear_from};
@@ -20,6 +20,7 @@ mod reading;
 pub mod records;
 mod steps;
 pub mod token;
+mod writer;
 
 // Reads a pattern's text: the tree's node list and the classes of its positions are left in the lent
 // memory, and cleared records beyond them. The group records are for the reading alone.
@@ -32,22 +33,21 @@ pub fn read<K: Kind>(
     ensures { ReadCall K.Kind.reading K.Kind.cleared text.now nodes.old classes.old groups.old result nodes.new classes.new groups.new }
 {
     if text.is_empty() || text.len() > MAX_TEXT {
-        return Err(Refused {
-            refusal: Refusal::TextLength,
-            place: 0,
-        });
+        return Err(Refusal::TextLength.at(0));
     }
     if nodes.len() < MAX_NODES || classes.len() < MAX_POSITIONS || groups.len() < MAX_GROUPS {
-        return Err(Refused {
-            refusal: Refusal::MemoryTooShort,
-            place: 0,
-        });
+        return Err(Refusal::MemoryTooShort.at(0));
     }
     let mut stack = Stack::over(groups);
-    let read = read_tokens::<K>(text, nodes, classes, &mut stack);
+    let read = read_text::<K>(
+        text,
+        &mut nodes[..MAX_NODES],
+        &mut classes[..MAX_POSITIONS],
+        &mut stack,
+    );
     stack.clear(Group::cleared());
     let outcome = limited(read, text.len());
-    let used = used_by(outcome);
+    let used = outcome.unwrap_or_default();
     clear_from(nodes, used.nodes, Node::cleared());
     clear_from(classes, used.positions, K::cleared_class());
     outcome
@@ -57,26 +57,9 @@ pub fn read<K: Kind>(
 fn limited(read: Result<Counts, Refused>, end: usize) -> Result<Counts, Refused>
     ensures { result ≡ limited_counts end read }
 {
-    match read {
-        Ok(counts) if counts.positions > MAX_POSITIONS || counts.nodes > MAX_NODES => Err(
-            Refused {
-                refusal: Refusal::PatternTooLarge,
-                place: end,
-            },
-        ),
-        other => other,
+    let counts = read?;
+    if counts.positions > MAX_POSITIONS || counts.nodes > MAX_NODES {
+        return Err(Refusal::PatternTooLarge.at(end));
     }
-}
-
-// How many records an outcome leaves in use: none, on a refusal.
-fn used_by(outcome: Result<Counts, Refused>) -> Counts
-    ensures { result ≡ used_by outcome }
-{
-    match outcome {
-        Ok(counts) => counts,
-        Err(_) => Counts {
-            nodes: 0,
-            positions: 0,
-        },
-    }
+    Ok(counts)
 }

@@ -1,73 +1,63 @@
-ghost use Rattle.std.specs.Prelude.{◌≡◌, ◌+◌, ◌<◌, ◌≤◌, false, length};
-ghost use Rattle.reader.specs.Writer.{kept, joined_count, joined_nodes, pattern_count, pattern_nodes, started_progress, started_nodes};
+ghost use Rattle.std.specs.Prelude.{◌≡◌, ◌<◌, ◌≤◌, false};
+ghost use Rattle.trees.specs.Nodes.{node_of};
+ghost use Rattle.reader.specs.Writer.{adds, joins, ends_pattern, starts_piece};
+ghost use Rattle.reader.specs.Desk.{desk_of, SameMemory};
 
-use crate::limits::MAX_NODES;
-use crate::records::Progress;
+use crate::writer::Writer;
 use trees::{Joiner, Node, NodeKind};
 
 // The counts stay far below what a number holds: a text has 1,024 bytes at most, each token adds two
 // nodes at most, and so does the end.
 
-// Writes an item in its place, while that is below the limit: beyond it, reading goes on without
-// writing, since a fault further right comes before the pattern's size.
-pub(crate) fn keep<T: Copy>(slots: &mut [T], limit: usize, place: usize, item: T)
-    requires { limit ≤ length slots.old }
-    ensures { slots.new ≡ kept limit place item slots.old }
-{
-    if place < limit {
-        slots[place] = item;
+impl<C: Copy> Writer<'_, '_, '_, '_, C> {
+    // Adds a node behind the others, if the memory has a place for it: beyond it, reading goes on without
+    // writing, since a fault further right comes before the pattern's size.
+    pub(crate) fn add(&mut self, kind: NodeKind, a: usize, b: usize)
+        requires few { self.old.progress.nodes < 8192 }
+        ensures lent { SameMemory self.new self.old }
+        ensures added { desk_of self.new ≡ adds (node_of kind a b) (desk_of self.old) }
+    {
+        let place = self.progress.nodes;
+        if place < self.nodes.len() {
+            self.nodes[place] = Node::new(kind, a, b);
+        }
+        self.progress.nodes = place + 1;
     }
-}
 
-// Joins what was written last to the tree before it, if there is one; `left` is the number of nodes up
-// to that tree's root, or 0. Returns the number of nodes then.
-fn join(nodes: &mut [Node], count: usize, joiner: Joiner, left: usize) -> usize
-    requires room { 255 ≤ length nodes.old }
-    requires some { 1 ≤ count }
-    requires few { count < 4096 }
-    ensures count { result ≡ joined_count left count }
-    ensures nodes { nodes.new ≡ joined_nodes joiner left count nodes.old }
-{
-    if left == 0 {
-        return count;
+    // Joins what was written last to the tree before it, if there is one; `left` is the number of nodes up
+    // to that tree's root, or 0.
+    fn join(&mut self, joiner: Joiner, left: usize)
+        requires some { 1 ≤ self.old.progress.nodes }
+        requires few { self.old.progress.nodes < 8192 }
+        ensures lent { SameMemory self.new self.old }
+        ensures joined { desk_of self.new ≡ joins joiner left (desk_of self.old) }
+    {
+        if left != 0 {
+            let last = self.progress.nodes - 1;
+            self.add(NodeKind::Join(joiner), left - 1, last);
+        }
     }
-    keep(
-        nodes,
-        MAX_NODES,
-        count,
-        Node::new(NodeKind::Join(joiner), left - 1, count - 1),
-    );
-    count + 1
-}
 
-// Closes the pattern that is being read: its last sequence, then its last choice. Returns the number of
-// nodes then.
-pub(crate) fn end_pattern(nodes: &mut [Node], progress: Progress) -> usize
-    requires room { 255 ≤ length nodes.old }
-    requires some { 1 ≤ progress.nodes }
-    requires few { progress.nodes < 4095 }
-    ensures count { result ≡ pattern_count progress }
-    ensures nodes { nodes.new ≡ pattern_nodes progress nodes.old }
-{
-    let count = join(nodes, progress.nodes, Joiner::Sequence, progress.sequence);
-    join(nodes, count, Joiner::Choice, progress.choice)
-}
-
-// Makes one sequence of the pieces read so far, before another base.
-pub(crate) fn start_piece(nodes: &mut [Node], progress: Progress) -> Progress
-    requires room { 255 ≤ length nodes.old }
-    requires some { progress.wanting ≡ false → 1 ≤ progress.nodes }
-    requires few { progress.nodes < 4096 }
-    ensures progress { result ≡ started_progress progress }
-    ensures nodes { nodes.new ≡ started_nodes progress nodes.old }
-{
-    if progress.wanting {
-        return progress;
+    // Closes the pattern that is being read: its last sequence, then its last choice.
+    pub(crate) fn end_pattern(&mut self)
+        requires piece { self.old.progress.wanting ≡ false }
+        requires few { self.old.progress.nodes < 4096 }
+        ensures lent { SameMemory self.new self.old }
+        ensures ended { desk_of self.new ≡ ends_pattern (desk_of self.old) }
+    {
+        self.join(Joiner::Sequence, self.progress.sequence);
+        self.join(Joiner::Choice, self.progress.choice);
     }
-    let count = join(nodes, progress.nodes, Joiner::Sequence, progress.sequence);
-    Progress {
-        nodes: count,
-        sequence: count,
-        ..progress
+
+    // Makes one sequence of the pieces read so far, before another base.
+    pub(crate) fn start_piece(&mut self)
+        requires few { self.old.progress.nodes < 4096 }
+        ensures lent { SameMemory self.new self.old }
+        ensures started { desk_of self.new ≡ starts_piece (desk_of self.old) }
+    {
+        if !self.progress.wanting {
+            self.join(Joiner::Sequence, self.progress.sequence);
+            self.progress.sequence = self.progress.nodes;
+        }
     }
 }

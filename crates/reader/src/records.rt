@@ -38,7 +38,7 @@ pub struct Progress {
 }
 
 // How many nodes and positions an accepted pattern has.
-#[derive(Clone, Copy, PartialEq, Eq, Debug)]
+#[derive(Clone, Copy, PartialEq, Eq, Debug, Default)]
 pub struct Counts {
     pub nodes: usize,
     pub positions: usize,

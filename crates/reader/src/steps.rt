@@ -1,240 +1,161 @@
-ghost use Rattle.std.specs.Prelude.{◌≡◌, ◌<◌, ◌≤◌, false, ◌∷◌, length};
-ghost use Rattle.stack.specs.Lent.{Same, held};
-ghost use Rattle.reader.specs.Writer.{kept, pattern_nodes, started_nodes, group_count, group_nodes, opened_progress, opened_group, closed_progress, outer_groups, barred_progress, postfixed_progress, postfixed_nodes, atom_progress, atom_nodes, desk, wrote, EndsOn, IfOk, Grown, ended};
+ghost use Rattle.std.specs.Prelude.{◌≡◌, ◌<◌};
+ghost use Rattle.reader.specs.Desk.{desk_of, SameMemory};
+ghost use Rattle.reader.specs.Writer.{opens, closes, bars, repeats, takes, ends_group, wrote, EndsOn, IfOk, pattern_nodes, ended};
 
-use crate::limits::{MAX_GROUPS, MAX_NODES, MAX_POSITIONS};
-use crate::nodes::{end_pattern, keep, start_piece};
+use crate::limits::MAX_GROUPS;
 use crate::records::{Counts, Group, Progress};
 use crate::token::Token;
+use crate::writer::Writer;
 use kinds::{Refusal, Refused};
-use stack::Stack;
-use trees::{Node, NodeKind, Postfix};
+use trees::{NodeKind, Postfix};
 
-// `(`: the pattern so far is set aside, and another begins. A slot is left on the stack while the limit
-// is not reached.
-fn open_group(
-    nodes: &mut [Node],
-    groups: &mut Stack<'_, Group>,
-    progress: Progress,
-    place: usize,
-) -> Result<Progress, Refusal>
-    requires room { 255 ≤ length nodes.old }
-    requires slots { 32 ≤ length groups.old.slots.now }
-    requires some { progress.wanting ≡ false → 1 ≤ progress.nodes }
-    requires few { progress.nodes < 4096 }
-    ensures lent { Same groups.new.slots groups.old.slots }
-    ensures result { result ≡ opened_progress (length (held groups.old.slots.now groups.old.used)) progress }
-    ensures nodes { IfOk result (nodes.new ≡ started_nodes progress nodes.old) }
-    ensures groups { IfOk result (held groups.new.slots.now groups.new.used ≡ opened_group place progress ∷ held groups.old.slots.now groups.old.used) }
-{
-    if groups.len() >= MAX_GROUPS {
-        return Err(Refusal::TooManyGroups);
+impl<C: Copy> Writer<'_, '_, '_, '_, C> {
+    // `(`: the pattern so far is set aside, and another begins.
+    fn open_group(&mut self, place: usize) -> Result<(), Refusal>
+        requires few { self.old.progress.nodes < 4096 }
+        ensures lent { SameMemory self.new self.old }
+        ensures opened { EndsOn (opens place (desk_of self.old)) (desk_of self.new) result }
+    {
+        if self.groups.len() >= MAX_GROUPS {
+            return Err(Refusal::TooManyGroups);
+        }
+        self.start_piece();
+        let group = Group {
+            place,
+            choice: self.progress.choice,
+            sequence: self.progress.sequence,
+        };
+        self.groups.push(group).map_err(|_| Refusal::TooManyGroups)?;
+        self.progress = Progress {
+            choice: 0,
+            sequence: 0,
+            wanting: true,
+            ..self.progress
+        };
+        Ok(())
     }
-    let started = start_piece(nodes, progress);
-    groups.push(Group {
-        place,
-        choice: progress.choice,
-        sequence: started.sequence,
-    });
-    Ok(Progress {
-        nodes: started.nodes,
-        choice: 0,
-        sequence: 0,
-        wanting: true,
-        ..progress
-    })
-}
 
-// `|`: what stands before it is closed, and another branch begins.
-fn next_branch(nodes: &mut [Node], progress: Progress) -> Result<Progress, Refusal>
-    requires room { 255 ≤ length nodes.old }
-    requires some { progress.wanting ≡ false → 1 ≤ progress.nodes }
-    requires few { progress.nodes < 4095 }
-    ensures result { result ≡ barred_progress progress }
-    ensures nodes { IfOk result (nodes.new ≡ pattern_nodes progress nodes.old) }
-{
-    if progress.wanting {
-        return Err(Refusal::BaseWanted);
+    // `|`: what stands before it is closed, and another branch begins.
+    fn next_branch(&mut self) -> Result<(), Refusal>
+        requires few { self.old.progress.nodes < 4096 }
+        ensures lent { SameMemory self.new self.old }
+        ensures barred { EndsOn (bars (desk_of self.old)) (desk_of self.new) result }
+    {
+        if self.progress.wanting {
+            return Err(Refusal::BaseWanted);
+        }
+        self.end_pattern();
+        self.progress = Progress {
+            choice: self.progress.nodes,
+            sequence: 0,
+            wanting: true,
+            ..self.progress
+        };
+        Ok(())
     }
-    let count = end_pattern(nodes, progress);
-    Ok(Progress {
-        nodes: count,
-        choice: count,
-        sequence: 0,
-        wanting: true,
-        ..progress
-    })
-}
 
-// `*`, `+` or `?`: the last piece is repeated.
-fn repeat_piece(
-    nodes: &mut [Node],
-    progress: Progress,
-    postfix: Postfix,
-) -> Result<Progress, Refusal>
-    requires room { 255 ≤ length nodes.old }
-    requires some { progress.wanting ≡ false → 1 ≤ progress.nodes }
-    requires few { progress.nodes < 4096 }
-    ensures result { result ≡ postfixed_progress progress }
-    ensures nodes { IfOk result (nodes.new ≡ postfixed_nodes postfix progress nodes.old) }
-{
-    if progress.wanting {
-        return Err(Refusal::BaseWanted);
+    // `*`, `+` or `?`: the last piece is repeated.
+    fn repeat_piece(&mut self, postfix: Postfix) -> Result<(), Refusal>
+        requires few { self.old.progress.nodes < 4096 }
+        ensures lent { SameMemory self.new self.old }
+        ensures postfixed { EndsOn (repeats postfix (desk_of self.old)) (desk_of self.new) result }
+    {
+        if self.progress.wanting {
+            return Err(Refusal::BaseWanted);
+        }
+        let last = self.progress.nodes - 1;
+        self.add(NodeKind::Repeat(postfix), last, 0);
+        Ok(())
     }
-    let count = progress.nodes;
-    keep(
-        nodes,
-        MAX_NODES,
-        count,
-        Node::new(NodeKind::Repeat(postfix), count - 1, 0),
-    );
-    Ok(Progress {
-        nodes: count + 1,
-        ..progress
-    })
-}
 
-// An atom: another piece, and the next position.
-fn take_atom<C: Copy>(
-    nodes: &mut [Node],
-    classes: &mut [C],
-    progress: Progress,
-    class: C,
-) -> Progress
-    requires room { 255 ≤ length nodes.old }
-    requires places { 63 ≤ length classes.old }
-    requires some { progress.wanting ≡ false → 1 ≤ progress.nodes }
-    requires few { progress.nodes < 4095 }
-    requires counted { progress.positions < 4096 }
-    ensures result { result ≡ atom_progress progress }
-    ensures nodes { nodes.new ≡ atom_nodes progress nodes.old }
-    ensures classes { classes.new ≡ kept 63 progress.positions class classes.old }
-{
-    let started = start_piece(nodes, progress);
-    let position = progress.positions + 1;
-    keep(
-        nodes,
-        MAX_NODES,
-        started.nodes,
-        Node::new(NodeKind::Position, position, 0),
-    );
-    keep(classes, MAX_POSITIONS, progress.positions, class);
-    Progress {
-        nodes: started.nodes + 1,
-        positions: position,
-        wanting: false,
-        ..started
+    // An atom: another piece, and the next position.
+    fn take_atom(&mut self, class: C)
+        requires few { self.old.progress.nodes < 4096 }
+        requires counted { self.old.progress.positions < 4096 }
+        ensures lent { SameMemory self.new self.old }
+        ensures taken { desk_of self.new ≡ takes class (desk_of self.old) }
+    {
+        self.start_piece();
+        let place = self.progress.positions;
+        self.add(NodeKind::Position, place + 1, 0);
+        if place < self.classes.len() {
+            self.classes[place] = class;
+        }
+        self.progress.positions = place + 1;
+        self.progress.wanting = false;
     }
-}
 
-// What stands in a group is closed, or is the empty word. Returns the number of nodes then.
-fn end_group(nodes: &mut [Node], progress: Progress) -> Result<usize, Refusal>
-    requires room { 255 ≤ length nodes.old }
-    requires some { progress.wanting ≡ false → 1 ≤ progress.nodes }
-    requires few { progress.nodes < 4095 }
-    ensures result { result ≡ group_count progress }
-    ensures nodes { IfOk result (nodes.new ≡ group_nodes progress nodes.old) }
-{
-    if !progress.wanting {
-        return Ok(end_pattern(nodes, progress));
+    // What stands in a group is closed, or is the empty word.
+    fn end_group(&mut self) -> Result<(), Refusal>
+        requires few { self.old.progress.nodes < 4096 }
+        ensures lent { SameMemory self.new self.old }
+        ensures ended { EndsOn (ends_group (desk_of self.old)) (desk_of self.new) result }
+    {
+        if !self.progress.wanting {
+            self.end_pattern();
+            return Ok(());
+        }
+        if self.progress.choice != 0 {
+            return Err(Refusal::BaseWanted);
+        }
+        self.add(NodeKind::Empty, 0, 0);
+        Ok(())
     }
-    if progress.choice != 0 {
-        return Err(Refusal::BaseWanted);
-    }
-    keep(
-        nodes,
-        MAX_NODES,
-        progress.nodes,
-        Node::new(NodeKind::Empty, 0, 0),
-    );
-    Ok(progress.nodes + 1)
-}
 
-// `)`: the innermost group is closed, and reading goes on in the pattern around it.
-fn close_group(
-    nodes: &mut [Node],
-    groups: &mut Stack<'_, Group>,
-    progress: Progress,
-) -> Result<Progress, Refusal>
-    requires room { 255 ≤ length nodes.old }
-    requires some { progress.wanting ≡ false → 1 ≤ progress.nodes }
-    requires few { progress.nodes < 4095 }
-    ensures lent { Same groups.new.slots groups.old.slots }
-    ensures result { result ≡ closed_progress (held groups.old.slots.now groups.old.used) progress }
-    ensures groups { held groups.new.slots.now groups.new.used ≡ outer_groups (held groups.old.slots.now groups.old.used) }
-    ensures nodes { IfOk result (nodes.new ≡ group_nodes progress nodes.old) }
-{
-    let Some(group) = groups.pop() else {
-        return Err(Refusal::NoOpenGroup);
-    };
-    match end_group(nodes, progress) {
-        Ok(count) => Ok(Progress {
-            nodes: count,
-            positions: progress.positions,
+    // `)`: the innermost group is closed, and reading goes on in the pattern around it.
+    fn close_group(&mut self) -> Result<(), Refusal>
+        requires few { self.old.progress.nodes < 4096 }
+        ensures lent { SameMemory self.new self.old }
+        ensures closed { EndsOn (closes (desk_of self.old)) (desk_of self.new) result }
+    {
+        let group = self.groups.pop().ok_or(Refusal::NoOpenGroup)?;
+        self.end_group()?;
+        self.progress = Progress {
             choice: group.choice,
             sequence: group.sequence,
             wanting: false,
-        }),
-        Err(refusal) => Err(refusal),
+            ..self.progress
+        };
+        Ok(())
     }
-}
 
-// One token at its place.
-pub(crate) fn take_token<C: Copy>(
-    nodes: &mut [Node],
-    classes: &mut [C],
-    groups: &mut Stack<'_, Group>,
-    progress: Progress,
-    place: usize,
-    token: Token<C>,
-) -> Result<Progress, Refusal>
-    requires room { 255 ≤ length nodes.old }
-    requires places { 63 ≤ length classes.old }
-    requires slots { 32 ≤ length groups.old.slots.now }
-    requires some { progress.wanting ≡ false → 1 ≤ progress.nodes }
-    requires few { progress.nodes < 4095 }
-    requires counted { progress.positions < 4096 }
-    ensures lent { Same groups.new.slots groups.old.slots }
-    ensures taken { EndsOn (wrote place token (desk nodes.old classes.old (held groups.old.slots.now groups.old.used) progress)) nodes.new classes.new (held groups.new.slots.now groups.new.used) result }
-    ensures grown { Grown progress result }
-{
-    match token {
-        Token::Open => open_group(nodes, groups, progress, place),
-        Token::Close => close_group(nodes, groups, progress),
-        Token::Bar => next_branch(nodes, progress),
-        Token::Repeat(postfix) => repeat_piece(nodes, progress, postfix),
-        Token::Atom(class) => Ok(take_atom(nodes, classes, progress, class)),
+    // One token at its place.
+    pub(crate) fn take_token(&mut self, place: usize, token: Token<C>) -> Result<(), Refusal>
+        requires few { self.old.progress.nodes < 4096 }
+        requires counted { self.old.progress.positions < 4096 }
+        ensures lent { SameMemory self.new self.old }
+        ensures taken { EndsOn (wrote place token (desk_of self.old)) (desk_of self.new) result }
+    {
+        match token {
+            Token::Open => self.open_group(place),
+            Token::Close => self.close_group(),
+            Token::Bar => self.next_branch(),
+            Token::Repeat(postfix) => self.repeat_piece(postfix),
+            Token::Atom(class) => {
+                self.take_atom(class);
+                Ok(())
+            }
+        }
     }
-}
 
-// The end of the text, at its length: no base may be wanted and no group open.
-pub(crate) fn finish(
-    nodes: &mut [Node],
-    groups: &mut Stack<'_, Group>,
-    progress: Progress,
-    end: usize,
-) -> Result<Counts, Refused>
-    requires room { 255 ≤ length nodes.old }
-    requires some { progress.wanting ≡ false → 1 ≤ progress.nodes }
-    requires few { progress.nodes < 4095 }
-    ensures lent { Same groups.new.slots groups.old.slots }
-    ensures result { result ≡ ended end (held groups.old.slots.now groups.old.used) progress }
-    ensures nodes { IfOk result (nodes.new ≡ pattern_nodes progress nodes.old) }
-{
-    if progress.wanting {
-        return Err(Refused {
-            refusal: Refusal::BaseWanted,
-            place: end,
-        });
-    }
-    match groups.pop() {
-        Some(group) => Err(Refused {
-            refusal: Refusal::UnfinishedGroup,
-            place: group.place,
-        }),
-        None => Ok(Counts {
-            nodes: end_pattern(nodes, progress),
-            positions: progress.positions,
-        }),
+    // The end of the text, at its length: no base may be wanted and no group open.
+    pub(crate) fn finish(&mut self, end: usize) -> Result<Counts, Refused>
+        requires few { self.old.progress.nodes < 4096 }
+        ensures lent { SameMemory self.new self.old }
+        ensures result { result ≡ ended end (desk_of self.old).groups self.old.progress }
+        ensures nodes { IfOk result (self.new.nodes.now ≡ pattern_nodes self.old.progress self.old.nodes.now) }
+        ensures classes { self.new.classes.now ≡ self.old.classes.now }
+    {
+        if self.progress.wanting {
+            return Err(Refusal::BaseWanted.at(end));
+        }
+        if let Some(group) = self.groups.pop() {
+            return Err(Refusal::UnfinishedGroup.at(group.place));
+        }
+        self.end_pattern();
+        Ok(Counts {
+            nodes: self.progress.nodes,
+            positions: self.progress.positions,
+        })
     }
 }

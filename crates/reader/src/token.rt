@@ -34,13 +34,11 @@ pub(crate) fn token_at<K: Kind>(text: &[u8], place: usize) -> Result<Cut<K::Clas
         b'+' => Token::Repeat(Postfix::Plus),
         b'?' => Token::Repeat(Postfix::Optional),
         _ => {
-            return match K::read_atom(text, place) {
-                Ok(atom) => Ok(Cut {
-                    token: Token::Atom(atom.class),
-                    length: atom.length,
-                }),
-                Err(refused) => Err(refused),
-            };
+            let atom = K::read_atom(text, place)?;
+            return Ok(Cut {
+                token: Token::Atom(atom.class),
+                length: atom.length,
+            });
         }
     };
     Ok(Cut { token, length: 1 })
