@@ -7,7 +7,8 @@ use crate::writer::Writer;
 use trees::{Joiner, Node, NodeKind};
 
 // The counts stay far below what a number holds: a text has 1,024 bytes at most, each token adds two
-// nodes at most, and so does the end.
+// nodes at most, and so does the end. So each step asks for a bound (`few`); it is no ghost field of a
+// writer, since a step that adds nodes would have to keep it.
 
 impl<C: Copy> Writer<'_, '_, '_, '_, C> {
     // Adds a node behind the others, if the memory has a place for it: beyond it, reading goes on without

@@ -55,6 +55,7 @@ fn read_tokens<K: Kind>(
     ensures read { EndPictured (run 32 (tokens_from K.Kind.reading text.now text.now 0 0).0 (tokens_from K.Kind.reading text.now text.now 0 0).1 [] none wanted) result writer.new.nodes.now writer.new.classes.now }
 {
     let mut place = 0;
+    // a while: each step is as long as the token that was cut
     while place < text.len() {
         let cut = token_at::<K>(text, place)?;
         writer

@@ -11,7 +11,8 @@ pub struct Group {
 }
 
 impl Group {
-    // What is left where memory is cleared: all zeros.
+    // What is left where memory is cleared: all zeros. Named for that, not a derived `Default`: that it is
+    // zeros is promised here.
     pub fn cleared() -> Group
         ensures { result ≡ cleared_group }
     {
@@ -24,7 +25,9 @@ impl Group {
 }
 
 // How far the reading has come in the innermost pattern that is not finished, and how many nodes and
-// positions there are so far. They are counted on when there is no place left for them.
+// positions there are so far. They are counted on when there is no place left for them. `choice` and
+// `sequence` are no options: they are set aside in a group record, which is plain numbers and, cleared, all
+// zeros. Nor is `wanting` one of `sequence`, whose number would be 0 or more in it all the same.
 #[derive(Clone, Copy)]
 pub struct Progress {
     pub nodes: usize,

@@ -6,7 +6,8 @@ use stack::Stack;
 use trees::Node;
 
 // All that a reading works with: the memory for the tree, the groups that are open, and how far it has
-// come. Each reference has a lifetime of its own: the check follows what is lent by its lifetime.
+// come. Each reference has a lifetime of its own: the check follows what is lent by its lifetime. Each step
+// says that the memory is still the one that was lent (`lent`), which no field of a writer can say.
 #[derive(Drop)]
 pub(crate) struct Writer<'n, 'c, 'g, 's, C> {
     pub(crate) nodes: &'n mut [Node],
