@@ -1,3 +1,4 @@
+use Rattle.std.specs.Prelude.{OnOk}
 use Rattle.std.proofs.Common.{◌≡◌, ℕ, ◌+◌, ◌<◌, ◌≤◌, Bool, true, false, cond, eqb, ltb, List, [], ◌∷◌, length, get_or, Ok, Err, Result, sym, refl, ap, ◌∙◌, subst, arith}
 use mathlib.Core.Option.{Option, none}
 use Rattle.std.specs.Result.{MatchResult, IsErrAnd}
@@ -18,7 +19,7 @@ use Rattle.reader.specs.declared.token.Cut.{Cut}
 use Rattle.reader.specs.Tokens.{text_ends, cut_at}
 use Rattle.reader.specs.Machine.{Part, wanted, Frame, Turn, goes, stops, step, carry, finish, run}
 use Rattle.reader.specs.Desk.{Desk, fresh, SameMemory}
-use Rattle.reader.specs.Writer.{joined_count, pattern_count, group_count, started_progress, branch_start, piece_end, outer_progress, closed_progress, outer_groups, atom_progress, group_nodes, on_desk, wrote, ended, pattern_nodes, IfOk, Begins, EndPictured}
+use Rattle.reader.specs.Writer.{joined_count, pattern_count, group_count, started_progress, branch_start, piece_end, outer_progress, closed_progress, outer_groups, atom_progress, group_nodes, on_desk, wrote, ended, pattern_nodes, Begins, EndPictured}
 use Rattle.reader.proofs.Cuts.{tokens_at, Sized, tokens_cut, tokens_stuck, tokens_end}
 use Rattle.reader.proofs.Pending.{Pictured, TurnPictured}
 use Rattle.reader.proofs.Pictured.{start_pictured, step_pictured, end_pictured}
@@ -223,7 +224,7 @@ module _ {C : Type 0} (reading : List ℕ → ℕ → Result (Atom C) Refused) (
 
 -- The end, told by what the last step promises: the memory is as it should be when it accepts.
 pub end_from : {C : Type 0} (o : Result (Tree C) Refused) (q r : Result Counts Refused) (kept nodes : List Node) (classes : List C)
-    → EndPictured o q kept classes → r ≡ q → IfOk r (nodes ≡ kept) → EndPictured o r nodes classes
+    → EndPictured o q kept classes → r ≡ q → OnOk r (nodes ≡ kept) → EndPictured o r nodes classes
 end_from (Err f) q r kept nodes classes h e n = e ∙ h
 end_from (Ok t) q (Ok x) kept nodes classes h e n =
     record { counts = e ∙ h.counts; listed = subst (λ z. Begins z (listing t)) (sym n) h.listed; leaves = h.leaves }

@@ -163,11 +163,6 @@ module _ {C : Type 0} where
   EndsOn o d (Ok _) = o ≡ Ok d
   EndsOn o d (Err why) = o ≡ Err why
 
--- Something that holds when a turn goes on.
-abbrev pub IfOk : {X Y : Type 0} → Result X Y → Type 0 → Type 0
-IfOk (Ok x) A = A
-IfOk (Err y) A = Unit {0}
-
 -- The end of a text of n bytes: the counts, when no base is wanted and no group open.
 abbrev pub ended : ℕ → List Group → Progress → Result Counts Refused
 ended n [] p = cond p.wanting (refused_at BaseWanted n) (Ok (record { nodes = pattern_count p; positions = p.positions }))

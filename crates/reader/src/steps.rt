@@ -1,6 +1,6 @@
-ghost use Rattle.std.specs.Prelude.{◌≡◌, ◌<◌};
+ghost use Rattle.std.specs.Prelude.{◌≡◌, ◌<◌, OnOk};
 ghost use Rattle.reader.specs.Desk.{desk_of, SameMemory};
-ghost use Rattle.reader.specs.Writer.{opens, closes, bars, repeats, takes, ends_group, wrote, EndsOn, IfOk, pattern_nodes, ended};
+ghost use Rattle.reader.specs.Writer.{opens, closes, bars, repeats, takes, ends_group, wrote, EndsOn, pattern_nodes, ended};
 
 use crate::limits::MAX_GROUPS;
 use crate::records::{Counts, Group, Progress};
@@ -143,7 +143,7 @@ impl<C: Copy> Writer<'_, '_, '_, '_, C> {
         requires few { self.old.progress.nodes < 4096 }
         ensures lent { SameMemory self.new self.old }
         ensures result { result ≡ ended end (desk_of self.old).groups self.old.progress }
-        ensures nodes { IfOk result (self.new.nodes.now ≡ pattern_nodes self.old.progress self.old.nodes.now) }
+        ensures nodes { OnOk result (self.new.nodes.now ≡ pattern_nodes self.old.progress self.old.nodes.now) }
         ensures classes { self.new.classes.now ≡ self.old.classes.now }
     {
         if self.progress.wanting {
