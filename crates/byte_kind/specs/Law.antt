@@ -12,7 +12,7 @@ use Rattle.kinds.proofs.Language.{leads_shorter, Inside, at_start}
 use Rattle.kinds.proofs.Operators.{operator_is, not_operator, cases_operator}
 use Rattle.sets.proofs.Bools.{or_false, or_swap}
 use Rattle.byte_kind.specs.declared.class.ByteClass.{ByteClass}
-use Rattle.byte_kind.specs.Class.{has_byte, between, ranged, others, empty_class, only_class, Words}
+use Rattle.byte_kind.specs.Class.{has_byte, class_of, between, ranged, others, empty_class, only_class, Words}
 use Rattle.byte_kind.specs.Reading.{none_so_far, turn_of, atom_from, byte_reading}
 use Rattle.byte_kind.specs.Language.{Spelled, plain, escaped, Ranges, Item, Items, none, single, range, Cut, at_item, at_escape, at_last, Shape, any, only, in_items, admitted_by, set_shape, Written, dot, escape, set, ordinary, Faulty, ended, operator, cut_escape, cut_set, backward, no_items, Exact, ReadAsWritten}
 use Rattle.sets.proofs.NumberSets.{set_same, set_of-words, set_of-has, has-no_number}
@@ -22,15 +22,26 @@ use Rattle.kinds.specs.Sets.{whole_class}
 
 -- What the classes have.
 
+-- Classes that have the same bytes are equal.
+pub class_same : (c d : ByteClass) → Words c → Words d → ((b : ℕ) → b < 256 → has_byte c b ≡ has_byte d b) → c ≡ d
+class_same c d v w same = ap (λ s. record { bytes = s }) (set_same 4 c.bytes d.bytes v w same)
+
+pub class_of-words : (f : ℕ → Bool) → Words (class_of f)
+class_of-words f = set_of-words 4 f
+
+-- The class of a test has exactly the bytes that pass it.
+pub class_of-has : (f : ℕ → Bool) (b : ℕ) → b < 256 → has_byte (class_of f) b ≡ f b
+class_of-has f b h = set_of-has 4 f b h
+
 no_byte : (b : ℕ) → has_byte empty_class b ≡ false
 no_byte b = has-no_number 4 b
 
 has_ranged : (c : ByteClass) (first last b : ℕ) → b < 256
     → has_byte (ranged c first last) b ≡ (between first last b || has_byte c b)
-has_ranged c first last b h = set_of-has 4 (λ x. between first last x || has_byte c x) b h
+has_ranged c first last b h = class_of-has (λ x. between first last x || has_byte c x) b h
 
 has_others : (c : ByteClass) (b : ℕ) → b < 256 → has_byte (others c) b ≡ not (has_byte c b)
-has_others c b h = set_of-has 4 (λ x. not (has_byte c x)) b h
+has_others c b h = class_of-has (λ x. not (has_byte c x)) b h
 
 has_only : (c b : ℕ) → b < 256 → has_byte (only_class c) b ≡ (b == c)
 has_only c b h = has_ranged empty_class c c b h ∙ rw (no_byte b) (grind (arith, nat_tests))
@@ -51,11 +62,11 @@ has_whole false items b h = has_items items b h
 
 words_all : (items : List Item) (c : ByteClass) → Words c → Words (add_all c items)
 words_all [] c w = w
-words_all (item ∷ items) c w = words_all items (ranged c item.first item.last) (set_of-words 4 _)
+words_all (item ∷ items) c w = words_all items (ranged c item.first item.last) (class_of-words _)
 
 words_whole : (negated : Bool) (item : Item) (items : List Item) → Words (whole_class others negated (add_all empty_class (item ∷ items)))
-words_whole true item items = set_of-words 4 _
-words_whole false item items = words_all items (ranged empty_class item.first item.last) (set_of-words 4 _)
+words_whole true item items = class_of-words _
+words_whole false item items = words_all items (ranged empty_class item.first item.last) (class_of-words _)
 
 -- What is read leaves less of the text.
 
@@ -75,7 +86,7 @@ abbrev ReadOk : List ℕ → List ℕ → Shape → ℕ → Type 0
 ReadOk text rest shape i = language.ReadOk Written Faulty Exact atom_from text rest shape i
 
 exact_only : (c : ℕ) → Exact (only c) (only_class c)
-exact_only c = record { words = set_of-words 4 _; members = has_only c }
+exact_only c = record { words = class_of-words _; members = has_only c }
 
 written_read : (text rest : List ℕ) (shape : Shape) → Written text shape rest → (i : ℕ) → ReadOk text rest shape i
 written_read text rest shape dot i =
@@ -83,7 +94,7 @@ written_read text rest shape dot i =
       atom = record { class = others (only_class 10); length = 1 };
       is = refl;
       long = omega arith;
-      exact = record { words = set_of-words 4 _; members = λ b h. has_others (only_class 10) b h ∙ ap not (has_only 10 b h) };
+      exact = record { words = class_of-words _; members = λ b h. has_others (only_class 10) b h ∙ ap not (has_only 10 b h) };
     }
 written_read text rest shape (escape {b = c}) i =
     record { atom = record { class = only_class c; length = 2 }; is = refl; long = omega arith; exact = exact_only c }
@@ -236,7 +247,7 @@ outcome (b ∷ rest) = go rest (cases_eq b 46) (cases_eq b 92) (cases_eq b 91) (
 -- The reading is what the language says.
 
 one_class : (shape : Shape) (c d : ByteClass) → Exact shape c → Exact shape d → c ≡ d
-one_class shape c d v w = ap (λ s. record { bytes = s }) (set_same 4 c.bytes d.bytes v.words w.words (λ b h. v.members b h ∙ sym (w.members b h)))
+one_class shape c d v w = class_same c d v.words w.words (λ b h. v.members b h ∙ sym (w.members b h))
 
 pub read_as_written : (text : List ℕ) (i : ℕ) → ReadAsWritten text i (byte_reading text i)
 unfolding byte_reading
