@@ -1,6 +1,6 @@
 ghost use Rattle.std.specs.Prelude.{◌≡◌};
 ghost use Rattle.byte_kind.specs.Class.{others};
-ghost use Rattle.byte_kind.specs.Reading.{on, none_so_far, turn_of};
+ghost use Rattle.byte_kind.specs.Reading.{none_so_far, turn_of};
 
 use crate::class::ByteClass;
 use kinds::{Refusal, Refused, SetMachine};
@@ -30,13 +30,6 @@ pub(crate) enum SetState {
     LastEscape(u8, usize),
 }
 
-// The set goes on.
-fn on(state: SetState, class: ByteClass) -> Result<ControlFlow<ByteClass, Items>, Refused>
-    ensures { result ≡ on state class }
-{
-    Ok(ControlFlow::Continue(Items { state, class }))
-}
-
 impl SetMachine for Items {
     type Class = ByteClass;
 
@@ -60,33 +53,35 @@ impl SetMachine for Items {
         byte: u8,
     ) -> Result<ControlFlow<ByteClass, Items>, Refused> {
         let class = self.class;
-        match (self.state, byte) {
-            (SetState::Start, b']') => Err(Refusal::EmptySet.at(bracket)),
-            (SetState::Between, b']') => Ok(ControlFlow::Break(class)),
-            (SetState::Start | SetState::Between, b'\\') => on(SetState::Escape(place), class),
-            (SetState::Start | SetState::Between, b) => on(SetState::First(b, place), class),
-            (SetState::Escape(at), b) => on(SetState::First(b, at), class),
-            (SetState::First(first, at), b'-') => on(SetState::Dash(first, at), class),
+        let (state, class) = match (self.state, byte) {
+            (SetState::Start, b']') => return Err(Refusal::EmptySet.at(bracket)),
+            (SetState::Between, b']') => return Ok(ControlFlow::Break(class)),
+            (SetState::Start | SetState::Between, b'\\') => (SetState::Escape(place), class),
+            (SetState::Start | SetState::Between, b) => (SetState::First(b, place), class),
+            (SetState::Escape(at), b) => (SetState::First(b, at), class),
+            (SetState::First(first, at), b'-') => (SetState::Dash(first, at), class),
             (SetState::First(first, _), b']') => {
-                Ok(ControlFlow::Break(class.with_range(first, first)))
+                return Ok(ControlFlow::Break(class.with_range(first, first)));
             }
             (SetState::First(first, _), b'\\') => {
-                on(SetState::Escape(place), class.with_range(first, first))
+                (SetState::Escape(place), class.with_range(first, first))
             }
             (SetState::First(first, _), b) => {
-                on(SetState::First(b, place), class.with_range(first, first))
+                (SetState::First(b, place), class.with_range(first, first))
             }
-            (SetState::Dash(first, _), b']') => Ok(ControlFlow::Break(
-                class.with_range(first, first).with_range(b'-', b'-'),
-            )),
-            (SetState::Dash(first, at), b'\\') => on(SetState::LastEscape(first, at), class),
+            (SetState::Dash(first, _), b']') => {
+                let items = class.with_range(first, first).with_range(b'-', b'-');
+                return Ok(ControlFlow::Break(items));
+            }
+            (SetState::Dash(first, at), b'\\') => (SetState::LastEscape(first, at), class),
             (SetState::Dash(first, at) | SetState::LastEscape(first, at), b) if b < first => {
-                Err(Refusal::BackwardRange.at(at))
+                return Err(Refusal::BackwardRange.at(at));
             }
             (SetState::Dash(first, _) | SetState::LastEscape(first, _), b) => {
-                on(SetState::Between, class.with_range(first, b))
+                (SetState::Between, class.with_range(first, b))
             }
-        }
+        };
+        Ok(ControlFlow::Continue(Items { state, class }))
     }
 
     fn others(items: ByteClass) -> ByteClass {

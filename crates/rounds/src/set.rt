@@ -1,6 +1,6 @@
 ghost use Rattle.std.specs.Prelude.{◌≡◌};
 ghost use Rattle.rounds.specs.Class.{others};
-ghost use Rattle.rounds.specs.Reading.{on, none_so_far, units_so_far, begin_unit, turn_of};
+ghost use Rattle.rounds.specs.Reading.{none_so_far, units_so_far, turn_of};
 
 use crate::class::RoundClass;
 use crate::letter::{outcome_of_letter, side_of_letter};
@@ -24,27 +24,6 @@ pub(crate) enum SetState {
     Between,
     // behind a letter, which may yet be narrowed
     Letter(Outcome),
-}
-
-// The set goes on.
-fn on(state: SetState, class: RoundClass) -> Result<ControlFlow<RoundClass, Units>, Refused>
-    ensures { result ≡ on state class }
-{
-    Ok(ControlFlow::Continue(Units { state, class }))
-}
-
-// A byte that begins a unit, or nothing.
-fn begin_unit(
-    class: RoundClass,
-    place: usize,
-    byte: u8,
-) -> Result<ControlFlow<RoundClass, Units>, Refused>
-    ensures { result ≡ begin_unit class place byte }
-{
-    match outcome_of_letter(byte) {
-        Some(outcome) => on(SetState::Letter(outcome), class),
-        None => Err(Refusal::NoAtom.at(place)),
-    }
 }
 
 // The units so far, where a letter behind which no side was named is a unit of its own.
@@ -82,18 +61,22 @@ impl SetMachine for Units {
         place: usize,
         byte: u8,
     ) -> Result<ControlFlow<RoundClass, Units>, Refused> {
-        match (self.state, byte, side_of_letter(byte)) {
-            (SetState::Start, b']', _) => Err(Refusal::EmptySet.at(bracket)),
-            (_, b']', _) => Ok(ControlFlow::Break(units_so_far(self))),
+        let (state, class) = match (self.state, byte, side_of_letter(byte)) {
+            (SetState::Start, b']', _) => return Err(Refusal::EmptySet.at(bracket)),
+            (_, b']', _) => return Ok(ControlFlow::Break(units_so_far(self))),
             (SetState::Letter(outcome), _, Some(side)) => {
                 let narrowed = RoundUnit {
                     outcome,
                     side: Some(side),
                 };
-                on(SetState::Between, self.class.with_unit(narrowed))
+                (SetState::Between, self.class.with_unit(narrowed))
             }
-            (_, _, _) => begin_unit(units_so_far(self), place, byte),
-        }
+            (_, _, _) => match outcome_of_letter(byte) {
+                Some(outcome) => (SetState::Letter(outcome), units_so_far(self)),
+                None => return Err(Refusal::NoAtom.at(place)),
+            },
+        };
+        Ok(ControlFlow::Continue(Units { state, class }))
     }
 
     fn others(units: RoundClass) -> RoundClass {
