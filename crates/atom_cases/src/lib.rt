@@ -8,7 +8,7 @@ mod tests {
     use kinds::Kind;
     use rounds::Rounds;
 
-    // A refusal's number and place.
+    // A refusal's number and place. `reader_cases` has the same: the crates of cases stand apart.
     #[derive(Clone, Copy, PartialEq, Eq, Debug)]
     struct Fault {
         number: u8,

@@ -166,7 +166,8 @@ pub trait Kind: Sized {
     fn admitted(c: Self::Class, s: Self::Symbol) -> bool
         ensures { result ≡ admits c s };
 
-    // The atom at a place of a text, or why there is none.
+    // The atom at a place of a text, or why there is none. A text and a place, not the rest of a text, since a
+    // refusal is placed in the whole.
     fn read_atom(text: &[u8], place: usize) -> Result<Atom<Self::Class>, Refused>
         ensures read { result ≡ reading text.now place };
 

@@ -39,6 +39,7 @@ fn main(rt: HostRuntime) -> anyhow::Result<()> {
 // Prints what can be told of a text; a text that is refused is an error.
 fn tell(rt: &impl Print, heap: Global, kind: KindName, text: &str) -> anyhow::Result<()> {
     let mut lines = String::new(heap);
+    // a match: each kind is a type of its own, and there is one for each name
     let told = match kind {
         KindName::Bytes => explained::<Bytes>(text, &mut lines),
         KindName::Rounds => explained::<Rounds>(text, &mut lines),

@@ -126,6 +126,7 @@ impl<C: Copy> Writer<'_, '_, '_, '_, C> {
         ensures lent { SameMemory self.new self.old }
         ensures taken { EndsOn (wrote place token (desk_of self.old)) (desk_of self.new) result }
     {
+        // a match: tokens are a closed choice, and each step takes what its token holds
         match token {
             Token::Open => self.open_group(place),
             Token::Close => self.close_group(),

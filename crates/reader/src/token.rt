@@ -21,7 +21,8 @@ pub struct Cut<C> {
     pub length: usize,
 }
 
-// The token at a place of the text: an operator, or else an atom of the kind.
+// The token at a place of the text: an operator, or else an atom of the kind. There is a byte at the place: at the
+// text's end there is no token, which is no refusal.
 pub(crate) fn token_at<K: Kind>(text: &[u8], place: usize) -> Result<Cut<K::Class>, Refused>
     requires { place < length text.now }
     ensures { result ≡ cut_at K.Kind.reading text.now place (slice_index text.now place) }

@@ -15,7 +15,7 @@ mod tests {
     use std::test::Fail;
     use trees::Node;
 
-    // A node record: kind, a and b.
+    // A node record: kind, a and b, as the numbers that stand in it.
     type Record = (u8, usize, usize);
 
     // A position, counted from 1, and the first and the last of some symbols that it admits.
@@ -55,7 +55,7 @@ mod tests {
     #[derive(Clone, Copy)]
     struct Tree(Nodes, Classes);
 
-    // A refusal's number and place.
+    // A refusal's number and place. `atom_cases` has the same: the crates of cases stand apart.
     #[derive(Clone, Copy, PartialEq, Eq, Debug)]
     struct Fault {
         number: u8,

@@ -3,6 +3,8 @@ ghost use Rattle.rounds.specs.Reading.{outcome_of_letter, side_of_letter};
 
 use crate::symbol::{Outcome, Side};
 
+// Options, not `TryFrom`: a byte that names nothing is no error yet, it may be the `]` of a set.
+
 // The outcome that a letter names.
 pub(crate) fn outcome_of_letter(byte: u8) -> Option<Outcome>
     ensures { result ≡ outcome_of_letter byte }

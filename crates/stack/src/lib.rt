@@ -5,7 +5,8 @@
 ghost use Rattle.std.specs.Prelude.{◌≡◌, ◌+◌, ◌-◌, ◌<◌, ◌≤◌, [], ◌∷◌, ◌↔◌, length, replicate, Some, None, IsOk, OnOk, IfErr, slice_set};
 ghost use Rattle.stack.specs.Lent.{Same, cleared_from};
 
-// The first `used` slots hold the stack, the last of them its top.
+// The first `used` slots hold the stack, the last of them its top. The library takes no memory of its own, so
+// this is what a `Vec` would be.
 #[derive(Drop)]
 pub struct Stack<'a, T> {
     slots: &'a mut [T],

@@ -71,7 +71,7 @@ impl TryFrom<u8> for NodeKind {
 
 // A node record: plain numbers, whoever wrote them; so `kind` is a number too, which may stand for no
 // kind of node. `a` and `b` are the numbers of the operands' nodes, or `a` is the number of a position;
-// what a kind does not use is 0.
+// what a kind does not use is 0. Numbers of nodes and not boxes, since the memory is the caller's.
 #[derive(Clone, Copy, PartialEq, Eq, Debug)]
 pub struct Node {
     pub kind: u8,
