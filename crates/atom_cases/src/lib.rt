@@ -8,7 +8,7 @@ mod tests {
     use kinds::Kind;
     use rounds::Rounds;
 
-    // A refusal's number and place. `reader_cases` has the same: the crates of cases stand apart.
+    // A refusal's number and place. Not `Refused`: the tables hold the numbers of the listing, and try them too.
     #[derive(Clone, Copy, PartialEq, Eq, Debug)]
     struct Fault {
         number: u8,

@@ -98,16 +98,16 @@ fn read_here(text: &[u8], place: usize) -> Result<Atom<ByteClass>, Refused>
     }
 }
 
-// The `\` at a place, with the byte that it takes literally.
+// The `\` at a place, with the byte that it takes literally; it stands there, as the caller saw.
 fn read_escape(text: &[u8], place: usize) -> Result<Atom<ByteClass>, Refused>
     requires { place < length text.now }
     ensures { result ≡ escape_from (drop (place + 1) text.now) place }
 {
-    if place + 1 >= text.len() {
-        return Err(Refusal::UnfinishedEscape.at(place));
-    }
+    let byte = text
+        .get(place + 1)
+        .ok_or(Refusal::UnfinishedEscape.at(place))?;
     Ok(Atom {
-        class: ByteClass::only(text[place + 1]),
+        class: ByteClass::only(*byte),
         length: 2,
     })
 }

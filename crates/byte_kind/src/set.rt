@@ -6,7 +6,8 @@ use crate::class::ByteClass;
 use kinds::{Refusal, Refused, SetMachine};
 use std::ops::ControlFlow;
 
-// The reading of a set: how far it has come, and the class of the items so far.
+// The reading of a set: how far it has come, and the class of the items so far. A struct of each kind's own: a
+// kind's crate could not make a machine of a type of `kinds`.
 #[derive(Clone, Copy)]
 pub(crate) struct Items {
     state: SetState,

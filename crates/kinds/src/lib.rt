@@ -1,4 +1,4 @@
-// What the library turns down, and what it asks of a kind of symbol.
+// What the library turns down, what it asks of a kind of symbol, and how a set is read for every kind.
 // `Refusal` names every case in which a call of the library is turned down; `Refused` adds a place in
 // the pattern's text. `Kind` is what the reader, the steppers and the scan know of symbols: only a
 // kind's own crate knows its letters.

@@ -22,12 +22,12 @@ pub(crate) enum Unclear {
     Unread(io::Error),
     UnknownCommand,
     WrongWords,
-    UnknownKind(UnknownKind),
+    NoSuchKind(NoSuchKind),
 }
 
 // A word that names no kind.
 #[derive(Clone, Copy, Debug)]
-pub(crate) struct UnknownKind;
+pub(crate) struct NoSuchKind;
 
 // Reads the command from the program's arguments.
 pub(crate) fn read_command(rt: &HostRuntime) -> Result<Command, Unclear> {
@@ -42,23 +42,23 @@ pub(crate) fn read_command(rt: &HostRuntime) -> Result<Command, Unclear> {
     let (Some(kind), Some(text), None) = (words.next(), words.next(), words.next()) else {
         return Err(Unclear::WrongWords);
     };
-    let kind = kind.as_str().parse().map_err(Unclear::UnknownKind)?;
+    let kind = kind.as_str().parse().map_err(Unclear::NoSuchKind)?;
     Ok(Command::Pattern(kind, text))
 }
 
 impl FromStr for KindName {
-    type Err = UnknownKind;
+    type Err = NoSuchKind;
 
-    fn from_str(name: &str) -> Result<KindName, UnknownKind> {
+    fn from_str(name: &str) -> Result<KindName, NoSuchKind> {
         match name {
             "bytes" => Ok(KindName::Bytes),
             "rounds" => Ok(KindName::Rounds),
-            _ => Err(UnknownKind),
+            _ => Err(NoSuchKind),
         }
     }
 }
 
-impl fmt::Display for UnknownKind {
+impl fmt::Display for NoSuchKind {
     fn fmt<W: fmt::Write>(&self, f: &mut fmt::Formatter<W>) -> fmt::Result {
         f.write_str("the kind is expected to be `bytes` or `rounds`")
     }
@@ -73,11 +73,11 @@ impl fmt::Display for Unclear {
                 "the command is expected to be `pattern`; without arguments, prizes explains itself",
             ),
             Unclear::WrongWords => f.write_str("expected `prizes pattern KIND TEXT`"),
-            Unclear::UnknownKind(unknown) => write!(f, "{unknown}"),
+            Unclear::NoSuchKind(unknown) => write!(f, "{unknown}"),
         }
     }
 }
 
-impl Error for UnknownKind {}
+impl Error for NoSuchKind {}
 
 impl Error for Unclear {}

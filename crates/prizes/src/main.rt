@@ -23,11 +23,13 @@ KIND  bytes   symbols are bytes, as in the moves of a game file
 ";
 
 fn main(rt: HostRuntime) -> anyhow::Result<()> {
+    // matches: what is asked is a closed choice
     match read_command(&rt) {
         Ok(Command::Usage) => Ok(rt.print(USAGE)?),
         Ok(Command::Pattern(kind, text)) => tell(&rt, rt.alloc(), kind, text.as_str()),
         Err(unclear) => {
             eprintln!(rt; "{unclear}")?;
+            // arguments that could not be read end the program with their own error
             Err(match unclear {
                 Unclear::Unread(error) => error.into(),
                 other => other.into(),

@@ -71,7 +71,7 @@ impl fmt::Display for ByteName {
 impl Shown for Rounds {
     // Rounds as units, in the order of their numbers.
     fn fmt_class<W: fmt::Write>(class: RoundClass, f: &mut fmt::Formatter<W>) -> fmt::Result {
-        let members = (0..9).filter(|number| class.has(*number));
+        let members = (0..Rounds::symbols()).filter(|number| class.has(*number));
         for round in members.filter_map(|number| Round::try_from(number).ok()) {
             write!(f, " {round}")?;
         }

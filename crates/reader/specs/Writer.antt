@@ -12,6 +12,10 @@ use Rattle.trees.specs.Nodes.{node_of}
 use Rattle.trees.specs.Listing.{Tree, listing, leaves}
 use Rattle.reader.specs.declared.token.Token.{Token}
 use Rattle.reader.specs.declared.token.Token.TheVariants.{Open, Close, Bar, Repeat as Postfixed, Atom}
+use Rattle.kinds.specs.declared.Atom as atoms
+use Rattle.reader.specs.Tokens.{tokens_from}
+use Rattle.reader.specs.Machine.{wanted, run}
+use Rattle.std.proofs.Math.Option.{none}
 use Rattle.reader.specs.declared.records.Group.{Group}
 use Rattle.reader.specs.declared.records.Progress.{Progress}
 use Rattle.reader.specs.declared.records.Counts.{Counts}
@@ -182,6 +186,11 @@ pub record TreePictured {C : Type 0} (t : Tree C) (r : Result Counts Refused) (n
 abbrev pub EndPictured : {C : Type 0} → Result (Tree C) Refused → Result Counts Refused → List Node → List C → Type 0
 EndPictured (Ok t) r nodes classes = TreePictured t r nodes classes
 EndPictured (Err f) r nodes classes = r ≡ Err f
+
+-- The end of the reading of a text, as far as its size is not looked at.
+abbrev pub TextPictured : {C : Type 0} → (List ℕ → ℕ → Result (atoms.Atom C) Refused) → List ℕ → Result Counts Refused → List Node → List C → Type 0
+TextPictured reading text r nodes classes =
+    EndPictured (run 32 (tokens_from reading text text 0 0).0 (tokens_from reading text text 0 0).1 [] none wanted) r nodes classes
 
 -- A pattern that is read to its end is turned down for its size.
 abbrev pub limited_counts : ℕ → Result Counts Refused → Result Counts Refused

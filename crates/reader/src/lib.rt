@@ -39,6 +39,7 @@ pub fn read<K: Kind>(
         return Err(Refusal::MemoryTooShort.at(0));
     }
     let mut stack = Stack::over(groups);
+    // cut to the limits: past them nothing is written, however much is lent
     let read = read_text::<K>(
         text,
         &mut nodes[..MAX_NODES],

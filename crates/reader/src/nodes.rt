@@ -1,4 +1,4 @@
-ghost use Rattle.std.specs.Prelude.{◌≡◌, ◌<◌, ◌≤◌, false};
+ghost use Rattle.std.specs.Prelude.{◌≡◌, ◌<◌, ◌≤◌, false, slice_set};
 ghost use Rattle.trees.specs.Nodes.{node_of};
 ghost use Rattle.reader.specs.Writer.{adds, joins, ends_pattern, starts_piece};
 ghost use Rattle.reader.specs.Desk.{desk_of, SameMemory};
@@ -10,18 +10,25 @@ use trees::{Joiner, Node, NodeKind};
 // nodes at most, and so does the end. So each step asks for a bound (`few`); it is no ghost field of a
 // writer, since a step that adds nodes would have to keep it.
 
+// Writes an item in its place, if the memory has it: beyond it, reading goes on without writing, since a
+// fault further right comes before the pattern's size.
+pub(crate) fn keep<T: Copy>(slots: &mut [T], place: usize, item: T)
+    ensures { slots.new ≡ slice_set slots.old place item }
+{
+    if place < slots.len() {
+        slots[place] = item;
+    }
+}
+
 impl<C: Copy> Writer<'_, '_, '_, '_, C> {
-    // Adds a node behind the others, if the memory has a place for it: beyond it, reading goes on without
-    // writing, since a fault further right comes before the pattern's size.
+    // Adds a node behind the others.
     pub(crate) fn add(&mut self, kind: NodeKind, a: usize, b: usize)
         requires few { self.old.progress.nodes < 8192 }
         ensures lent { SameMemory self.new self.old }
         ensures added { desk_of self.new ≡ adds (node_of kind a b) (desk_of self.old) }
     {
         let place = self.progress.nodes;
-        if place < self.nodes.len() {
-            self.nodes[place] = Node::new(kind, a, b);
-        }
+        keep(self.nodes, place, Node::new(kind, a, b));
         self.progress.nodes = place + 1;
     }
 

@@ -1,11 +1,8 @@
-ghost use Rattle.std.specs.Prelude.{◌≡◌, ◌≤◌, [], length};
-ghost use Rattle.std.proofs.Math.Option.{none};
+ghost use Rattle.std.specs.Prelude.{◌≡◌, ◌≤◌, length};
 ghost use Rattle.stack.specs.Lent.{Same};
 ghost use Rattle.stack.specs.Stacked.{lent, memory, count};
-ghost use Rattle.reader.specs.Tokens.{tokens_from};
-ghost use Rattle.reader.specs.Machine.{wanted, run};
 ghost use Rattle.reader.specs.Desk.{desk_of, fresh, SameMemory};
-ghost use Rattle.reader.specs.Writer.{EndPictured};
+ghost use Rattle.reader.specs.Writer.{TextPictured};
 
 use crate::records::{Counts, Group, Progress};
 use crate::token::token_at;
@@ -26,7 +23,7 @@ pub(crate) fn read_text<K: Kind>(
     requires slots { 32 ≤ length (memory groups.old) }
     requires empty { count groups.old ≡ 0 }
     ensures lent { Same (lent groups.new) (lent groups.old) }
-    ensures read { EndPictured (run 32 (tokens_from K.Kind.reading text.now text.now 0 0).0 (tokens_from K.Kind.reading text.now text.now 0 0).1 [] none wanted) result nodes.new classes.new }
+    ensures read { TextPictured K.Kind.reading text.now result nodes.new classes.new }
 {
     let progress = Progress {
         nodes: 0,
@@ -52,7 +49,7 @@ fn read_tokens<K: Kind>(
     requires short { length text.now ≤ 1024 }
     requires start { desk_of writer.old ≡ fresh writer.old.nodes.now writer.old.classes.now }
     ensures lent { SameMemory writer.new writer.old }
-    ensures read { EndPictured (run 32 (tokens_from K.Kind.reading text.now text.now 0 0).0 (tokens_from K.Kind.reading text.now text.now 0 0).1 [] none wanted) result writer.new.nodes.now writer.new.classes.now }
+    ensures read { TextPictured K.Kind.reading text.now result writer.new.nodes.now writer.new.classes.now }
 {
     let mut place = 0;
     // a while: each step is as long as the token that was cut

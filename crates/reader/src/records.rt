@@ -11,8 +11,8 @@ pub struct Group {
 }
 
 impl Group {
-    // What is left where memory is cleared: all zeros. Named for that, not a derived `Default`: that it is
-    // zeros is promised here.
+    // What is left where memory is cleared: all zeros. Not a derived `Default`, which would be no plainer: its
+    // name says not what it is for, and no clause what it is.
     pub fn cleared() -> Group
         ensures { result ≡ cleared_group }
     {

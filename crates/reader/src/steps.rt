@@ -3,6 +3,7 @@ ghost use Rattle.reader.specs.Desk.{desk_of, SameMemory};
 ghost use Rattle.reader.specs.Writer.{opens, closes, bars, repeats, takes, ends_group, wrote, EndsOn, pattern_nodes, ended};
 
 use crate::limits::MAX_GROUPS;
+use crate::nodes::keep;
 use crate::records::{Counts, Group, Progress};
 use crate::token::Token;
 use crate::writer::Writer;
@@ -25,6 +26,7 @@ impl<C: Copy> Writer<'_, '_, '_, '_, C> {
             choice: self.progress.choice,
             sequence: self.progress.sequence,
         };
+        // there is a slot: the limit is not reached, and no fewer were lent
         self.groups.push(group).map_err(|_| Refusal::TooManyGroups)?;
         self.progress = Progress {
             choice: 0,
@@ -78,9 +80,7 @@ impl<C: Copy> Writer<'_, '_, '_, '_, C> {
         self.start_piece();
         let place = self.progress.positions;
         self.add(NodeKind::Position, place + 1, 0);
-        if place < self.classes.len() {
-            self.classes[place] = class;
-        }
+        keep(self.classes, place, class);
         self.progress.positions = place + 1;
         self.progress.wanting = false;
     }

@@ -55,7 +55,7 @@ mod tests {
     #[derive(Clone, Copy)]
     struct Tree(Nodes, Classes);
 
-    // A refusal's number and place. `atom_cases` has the same: the crates of cases stand apart.
+    // A refusal's number and place. Not `Refused`: the tables hold the numbers of the listing, and try them too.
     #[derive(Clone, Copy, PartialEq, Eq, Debug)]
     struct Fault {
         number: u8,

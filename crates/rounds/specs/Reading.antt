@@ -36,7 +36,7 @@ closed c = Ok (Break c)
 abbrev pub none_so_far : Units
 none_so_far = record { state = Start; class = empty_class }
 
--- A byte that begins a unit, or nothing.
+-- The set goes on behind a letter; a byte that names no outcome begins nothing.
 abbrev pub with_letter : RoundClass → ℕ → Option Outcome → Turn Units RoundClass
 with_letter c place None = no_atom_at place
 with_letter c place (Some outcome) = on (Letter outcome) c

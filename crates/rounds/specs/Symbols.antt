@@ -42,11 +42,12 @@ on_any_side outcome = record { outcome = outcome; side = None }
 abbrev pub on_side : Outcome → Side → RoundUnit
 on_side outcome side = record { outcome = outcome; side = Some side }
 
--- Whether a unit admits the round of a number: its outcome is the unit's, and its side is the unit's
--- where the unit names one.
+-- Whether the round of a number is on a side, where one is named.
 abbrev pub is_on : Option Side → ℕ → Bool
 is_on None n = true
 is_on (Some side) n = n / 3 == side_number side
 
+-- Whether a unit admits the round of a number: its outcome is the unit's, and its side is the unit's
+-- where the unit names one.
 abbrev pub in_unit : RoundUnit → ℕ → Bool
 in_unit unit n = n % 3 == outcome_number unit.outcome && is_on unit.side n

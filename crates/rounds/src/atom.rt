@@ -20,22 +20,20 @@ pub(crate) fn atom_at(text: &[u8], place: usize) -> Result<Atom<RoundClass>, Ref
             length: 1,
         }),
         b'[' => read_set::<Units>(text, place),
-        byte => match outcome_of_letter(byte) {
-            Some(outcome) => Ok(read_unit(text, place, outcome)),
-            None => Err(Refusal::NoAtom.at(place)),
-        },
+        byte => {
+            let outcome = outcome_of_letter(byte).ok_or(Refusal::NoAtom.at(place))?;
+            Ok(read_unit(text, place, outcome))
+        }
     }
 }
 
-// The unit whose letter, of this outcome, is at a place of the text.
+// The unit whose letter, of this outcome, is at a place of the text; the letter stands there, as the caller saw.
 fn read_unit(text: &[u8], place: usize, outcome: Outcome) -> Atom<RoundClass>
     requires { place < length text.now }
     ensures { result ≡ unit_from outcome (drop (place + 1) text.now) }
 {
-    match text.get(place + 1) {
-        Some(byte) => unit_atom(outcome, side_of_letter(*byte)),
-        None => unit_atom(outcome, None),
-    }
+    let side = text.get(place + 1).and_then(|byte| side_of_letter(*byte));
+    unit_atom(outcome, side)
 }
 
 // The atom of one unit: a letter, with the side's letter behind it where it names one.

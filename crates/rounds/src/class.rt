@@ -2,7 +2,7 @@ ghost use Rattle.std.specs.Prelude.{◌≡◌, ℕ, ◌<◌, not, ◌||◌};
 ghost use Rattle.rounds.specs.Symbols.{round_number, in_unit};
 ghost use Rattle.rounds.specs.Class.{has_round, with_round, with_unit, others, empty_class, full_class};
 
-use crate::symbol::{Round, RoundUnit};
+use crate::symbol::{COUNT, Round, RoundUnit};
 use sets::NumberSet;
 
 // A set of rounds, each by its number.
@@ -26,7 +26,7 @@ impl RoundClass {
         ensures { result ≡ full_class }
     {
         RoundClass {
-            rounds: NumberSet::gathered(9, |_| true),
+            rounds: NumberSet::gathered(COUNT, |_| true),
         }
     }
 
@@ -41,7 +41,7 @@ impl RoundClass {
     {
         let added = usize::from(round);
         RoundClass {
-            rounds: NumberSet::gathered(9, |n| n == added || self.rounds.has(n)),
+            rounds: NumberSet::gathered(COUNT, |n| n == added || self.rounds.has(n)),
         }
     }
 
@@ -51,7 +51,7 @@ impl RoundClass {
         ensures members { (n : ℕ) → n < 9 → has_round result n ≡ (in_unit unit n || has_round self n) }
     {
         RoundClass {
-            rounds: NumberSet::gathered(9, |n| unit.admits(n) || self.rounds.has(n)),
+            rounds: NumberSet::gathered(COUNT, |n| unit.admits(n) || self.rounds.has(n)),
         }
     }
 
@@ -61,7 +61,7 @@ impl RoundClass {
         ensures members { (n : ℕ) → n < 9 → has_round result n ≡ not (has_round self n) }
     {
         RoundClass {
-            rounds: NumberSet::gathered(9, |n| !self.rounds.has(n)),
+            rounds: NumberSet::gathered(COUNT, |n| !self.rounds.has(n)),
         }
     }
 }

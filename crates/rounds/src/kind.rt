@@ -9,7 +9,7 @@ ghost use Rattle.std.proofs.Common.{rules};
 
 use crate::atom::atom_at;
 use crate::class::RoundClass;
-use crate::symbol::Round;
+use crate::symbol::{COUNT, Round};
 use kinds::{Atom, Kind, Refused};
 
 // The kind of symbol whose symbols are rounds.
@@ -50,7 +50,7 @@ impl Kind for Rounds {
     ghost operators = { λ text i h op. reading_operator text i h op };
 
     fn symbols() -> usize {
-        9
+        COUNT
     }
 
     fn number_of(s: Round) -> usize {

@@ -3,9 +3,7 @@ ghost use Rattle.rounds.specs.Reading.{outcome_of_letter, side_of_letter};
 
 use crate::symbol::{Outcome, Side};
 
-// Options, not `TryFrom`: a byte that names nothing is no error yet, it may be the `]` of a set.
-
-// The outcome that a letter names.
+// The outcome that a letter names. An option, not `TryFrom`: a byte that names none is no error yet.
 pub(crate) fn outcome_of_letter(byte: u8) -> Option<Outcome>
     ensures { result ≡ outcome_of_letter byte }
 {
@@ -17,7 +15,7 @@ pub(crate) fn outcome_of_letter(byte: u8) -> Option<Outcome>
     }
 }
 
-// The side that a letter behind such a one names.
+// The side that a letter behind such a one names, an option likewise.
 pub(crate) fn side_of_letter(byte: u8) -> Option<Side>
     ensures { result ≡ side_of_letter byte }
 {

@@ -8,7 +8,8 @@ use crate::symbol::{Outcome, RoundUnit};
 use kinds::{Refusal, Refused, SetMachine};
 use std::ops::ControlFlow;
 
-// The reading of a set: how far it has come, and the class of the units so far.
+// The reading of a set: how far it has come, and the class of the units so far. A struct of each kind's own: a
+// kind's crate could not make a machine of a type of `kinds`.
 #[derive(Clone, Copy)]
 pub(crate) struct Units {
     state: SetState,
@@ -71,10 +72,10 @@ impl SetMachine for Units {
                 };
                 (SetState::Between, self.class.with_unit(narrowed))
             }
-            (_, _, _) => match outcome_of_letter(byte) {
-                Some(outcome) => (SetState::Letter(outcome), units_so_far(self)),
-                None => return Err(Refusal::NoAtom.at(place)),
-            },
+            (_, _, _) => {
+                let outcome = outcome_of_letter(byte).ok_or(Refusal::NoAtom.at(place))?;
+                (SetState::Letter(outcome), units_so_far(self))
+            }
         };
         Ok(ControlFlow::Continue(Units { state, class }))
     }

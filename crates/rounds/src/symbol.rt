@@ -1,7 +1,11 @@
 ghost use Rattle.std.specs.Prelude.{◌≡◌, ◌<◌};
 ghost use Rattle.rounds.specs.Symbols.{side_number, outcome_number, round_number, side_of, outcome_of, in_unit, IsRoundOf};
 
+use std::error::Error;
 use std::fmt;
+
+// How many rounds there are.
+pub(crate) const COUNT: usize = 9;
 
 // On which side a round was played, if it was played.
 #[derive(Clone, Copy, PartialEq, Eq, Debug)]
@@ -36,6 +40,14 @@ pub struct RoundUnit {
 #[derive(Clone, Copy, PartialEq, Eq, Debug)]
 pub struct UnknownRound(pub usize);
 
+impl fmt::Display for UnknownRound {
+    fn fmt<W: fmt::Write>(&self, f: &mut fmt::Formatter<W>) -> fmt::Result {
+        write!(f, "no round has the number {}", self.0)
+    }
+}
+
+impl Error for UnknownRound {}
+
 impl From<Side> for usize {
     ghost from_gives = { λ side number. number ≡ side_number side };
 
@@ -66,7 +78,7 @@ impl TryFrom<usize> for Round {
     ghost try_from_gives = { IsRoundOf };
 
     fn try_from(n: usize) -> Result<Round, UnknownRound> {
-        if n < 9 {
+        if n < COUNT {
             Ok(Round {
                 side: side_of(n / 3),
                 outcome: outcome_of(n % 3),
@@ -83,10 +95,7 @@ impl RoundUnit {
         ensures { result ≡ in_unit self n }
     {
         n % 3 == usize::from(self.outcome)
-            && match self.side {
-                None => true,
-                Some(side) => n / 3 == usize::from(side),
-            }
+            && self.side.is_none_or(|side| n / 3 == usize::from(side))
     }
 }
 

@@ -1,6 +1,6 @@
-use Rattle.std.proofs.Common.{◌≡◌, ℕ, zero, suc, ◌+◌, ◌*◌, ◌/◌, ◌%◌, ◌^◌, ◌<◌, ◌≤◌, Bool, false, ◌||◌, ◌⊎◌, ◌&&◌, true, ltb, List, length, get_or, set, replicate, refl, sym, ap, ◌∙◌, inl, inr, arith}
+use Rattle.std.proofs.Common.{◌≡◌, ℕ, zero, suc, ◌+◌, ◌*◌, ◌/◌, ◌%◌, ◌^◌, ◌<◌, ◌≤◌, Bool, false, ◌||◌, ◌⊎◌, ◌&&◌, true, List, length, get_or, set, replicate, refl, sym, ap, ◌∙◌, subst, inl, inr, arith}
 use Rattle.std.specs.Prelude.{◌==◌, ◌≢◌, nat_lt}
-use Rattle.std.proofs.lemmas.Bool.{cases_eq, cases_lt, ne_eqb, lt-ltb}
+use Rattle.std.proofs.lemmas.Bool.{cases_eq, cases_lt, ne_eqb, lt-ltb, le-ltb, eq-eqb}
 use Rattle.std.proofs.lemmas.Bool.Decides.{nat_tests}
 use Rattle.sets.specs.Laws.{Added}
 use Rattle.std.proofs.lemmas.List.{ext_get_or, get_or-replicate, get_or-set_same, get_or-set_other, get_or_past, length-replicate}
@@ -73,7 +73,7 @@ no_number-words w = record { many = length-replicate w 0; small = λ i. let e = 
 pub gathered_all : (w count : ℕ) (answers : ℕ → Bool → Type 0) (s : NumberSet w) (f : ℕ → Bool) → 64 * w ≤ count → Gathered answers count s
     → ((n : ℕ) (r : Bool) → n < count → answers n r → r ≡ f n) → s ≡ set_of f
 gathered_all w count answers s f h gathers told =
-    gathers f told ∙ set_of-same w (λ n. nat_lt n count && f n) f (λ n l. rw (lt-ltb n count (omega arith)))
+    gathers.whole f told ∙ set_of-same w (λ n. nat_lt n count && f n) f (λ n l. rw (lt-ltb n count (omega arith)))
 
 same_number : (x n : ℕ) → x / 64 ≡ n / 64 → (x % 64 == n % 64) ≡ (x == n)
 same_number x n e = grind (arith, nat_tests)
@@ -98,17 +98,34 @@ small-set words q r h l small i = go (cases_eq i q)
     go (inl e) = rw e (rw (get_or-set_same words q r 0 h) l)
     go (inr e) = rw (get_or-set_other words q i r 0 e) (small i)
 
--- One number more is tested: one that passes and is added, and one that does not pass or is none of these.
-pub passed : (f : ℕ → Bool) (x n : ℕ) (m : Bool) → f n ≡ true → m ≡ (ltb x n && f x) → ((x == n) || m) ≡ (ltb x (n + 1) && f x)
-passed f x n m t e = go (cases_eq x n)
+-- What a set is by its numbers below a count, and none from there up.
+pub whole_of : (w count : ℕ) (answers : ℕ → Bool → Type 0) (s : NumberSet w) → Words s
+    → ((n : ℕ) → n < count → n < 64 * w → answers n (has s n)) → ((n : ℕ) → count ≤ n → n < 64 * w → has s n ≡ false)
+    → Gathered answers count s
+whole_of w count answers s u below no_more =
+    record { below = below; no_more = no_more; whole = λ f told. is_set_of w s _ u (λ n l. go f told n l (cases_lt n count)) }
   where
-    go : (x ≡ n) ⊎ (x ≢ n) → ((x == n) || m) ≡ (ltb x (n + 1) && f x)
-    go (inl k) = let u : f x ≡ true = ap f k ∙ t in grind (arith, nat_tests)
-    go (inr k) = grind (arith, nat_tests)
+    go : (f : ℕ → Bool) → ((n : ℕ) (r : Bool) → n < count → answers n r → r ≡ f n) → (n : ℕ) → n < 64 * w
+        → (n < count) ⊎ (count ≤ n) → has s n ≡ (nat_lt n count && f n)
+    go f told n l (inl h) = rw (lt-ltb n count h) (told n (has s n) h (below n h l))
+    go f told n l (inr h) = rw (le-ltb n count h) (no_more n h l)
 
-pub not_passed : (f : ℕ → Bool) (x n : ℕ) (m : Bool) → (x ≡ n → f n ≡ false) → m ≡ (ltb x n && f x) → m ≡ (ltb x (n + 1) && f x)
-not_passed f x n m t e = go (cases_eq x n)
+-- One number more is answered: what holds of the numbers below n and of n holds of those below n + 1.
+pub one_more : (P : ℕ → Bool → Type 0) (before after : ℕ → Bool) (n bound : ℕ) → ((m : ℕ) → m < n → m < bound → P m (before m))
+    → ((m : ℕ) → m < n → after m ≡ before m) → (n < bound → P n (after n)) → (m : ℕ) → m < n + 1 → m < bound → P m (after m)
+one_more P before after n bound below same here m h l = go (cases_lt m n)
   where
-    go : (x ≡ n) ⊎ (x ≢ n) → m ≡ (ltb x (n + 1) && f x)
-    go (inl k) = let u : f x ≡ false = ap f k ∙ t k in grind (arith, nat_tests)
-    go (inr k) = grind (arith, nat_tests)
+    go : (m < n) ⊎ (n ≤ m) → P m (after m)
+    go (inl k) = subst (P m) (sym (same m k)) (below m k l)
+    go (inr k) = let e : n ≡ m = omega arith in subst (λ x. P x (after x)) e (here (omega arith))
+
+module _ (words after : List ℕ) (n : ℕ) (added : (x : ℕ) → in_words after x ≡ ((x == n) || in_words words x)) where
+  pub added_below : (m : ℕ) → m < n → in_words after m ≡ in_words words m
+  added_below m h = added m ∙ rw (ne_eqb m n (λ e. omega arith))
+
+  pub added_at : in_words after n ≡ true
+  added_at = added n ∙ rw (eq-eqb n n refl)
+
+  pub added_beyond : ((m : ℕ) → n ≤ m → m < 64 * length words → in_words words m ≡ false) → (m : ℕ) → n + 1 ≤ m → m < 64 * length words
+      → in_words after m ≡ false
+  added_beyond none m h l = added m ∙ rw (ne_eqb m n (λ e. omega arith)) (none m (omega arith) l)

@@ -1,4 +1,4 @@
-use Rattle.std.specs.Prelude.{◌≡◌, ℕ, zero, suc, ◌+◌, ◌*◌, ◌/◌, ◌%◌, ◌^◌, ◌<◌, Bool, ◌&&◌, List, [], ◌∷◌, length, nat_lt, replicate, slice_index}
+use Rattle.std.specs.Prelude.{◌≡◌, ℕ, zero, suc, ◌+◌, ◌*◌, ◌/◌, ◌%◌, ◌^◌, ◌<◌, ◌≤◌, Bool, false, ◌&&◌, List, [], ◌∷◌, length, nat_lt, replicate, slice_index}
 use Rattle.sets.specs.Sets.{member, gathered}
 use Rattle.sets.specs.declared.number_set.NumberSet.{NumberSet}
 
@@ -22,11 +22,13 @@ words_of f i (suc count) = gathered (λ j. f (i * 64 + j)) 64 ∷ words_of f (su
 unfoldable pub set_of : {w : ℕ} → (ℕ → Bool) → NumberSet w
 set_of {w} f = record { words = words_of f 0 w }
 
--- The numbers below a count that pass a test of which this is told: what its answer at a number may be.
--- Where it has one answer at each, the set is that of the answers.
-abbrev pub Gathered : {w : ℕ} → (ℕ → Bool → Type 0) → ℕ → NumberSet w → Type 0
-Gathered answers count s =
-    (f : ℕ → Bool) → ((n : ℕ) (r : Bool) → n < count → answers n r → r ≡ f n) → s ≡ set_of (λ n. nat_lt n count && f n)
+-- The numbers below a count that pass a test, of which this is told: what its answer at a number may be. The set
+-- has each number as the test may answer, and none from the count up; so it is the set of the answers, where
+-- there is one at each number.
+pub record Gathered {w : ℕ} (answers : ℕ → Bool → Type 0) (count : ℕ) (s : NumberSet w) : Type 0 where
+  pub below : (n : ℕ) → n < count → n < 64 * w → answers n (has s n)
+  pub no_more : (n : ℕ) → count ≤ n → n < 64 * w → has s n ≡ false
+  pub whole : (f : ℕ → Bool) → ((n : ℕ) (r : Bool) → n < count → answers n r → r ≡ f n) → s ≡ set_of (λ n. nat_lt n count && f n)
 
 -- What holds of every value of the type: so many words, of 64 bits each.
 pub record Words {w : ℕ} (s : NumberSet w) : Type 0 where

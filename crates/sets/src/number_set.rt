@@ -17,7 +17,8 @@ impl<const WORDS: usize> NumberSet<WORDS> {
         NumberSet { words: [0; WORDS] }
     }
 
-    // The numbers below a count that pass a test, as far as there are words for them.
+    // The numbers below a count that pass a test, as far as there are words for them. The test may be called at
+    // any number: a call of a closure asks for that, and nothing else is asked.
     pub fn gathered<F: Fn(usize) -> bool>(count: usize, test: F) -> Self
         requires { F.IsAlwaysCallable test }
         ensures { Gathered (F.post test) count result }

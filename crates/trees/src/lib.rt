@@ -5,6 +5,9 @@
 ghost use Rattle.std.specs.Prelude.{◌≡◌};
 ghost use Rattle.trees.specs.Nodes.{kind_number, IsKindOf, node_of, cleared_node};
 
+use std::error::Error;
+use std::fmt;
+
 // What joins two trees: one after the other, or either.
 #[derive(Clone, Copy, PartialEq, Eq, Debug)]
 pub enum Joiner {
@@ -50,6 +53,14 @@ impl From<NodeKind> for u8 {
 #[derive(Clone, Copy, PartialEq, Eq, Debug)]
 pub struct UnknownKind(pub u8);
 
+impl fmt::Display for UnknownKind {
+    fn fmt<W: fmt::Write>(&self, f: &mut fmt::Formatter<W>) -> fmt::Result {
+        write!(f, "no kind of node has the number {}", self.0)
+    }
+}
+
+impl Error for UnknownKind {}
+
 impl TryFrom<u8> for NodeKind {
     type Error = UnknownKind;
 
@@ -91,8 +102,8 @@ impl Node {
         }
     }
 
-    // What is left where memory is cleared: all zeros. Named for that, not a derived `Default`: that it is
-    // zeros is promised here.
+    // What is left where memory is cleared: all zeros. Not a derived `Default`, which would be no plainer: its
+    // name says not what it is for, and no clause what it is.
     pub fn cleared() -> Node
         ensures { result ≡ cleared_node }
     {

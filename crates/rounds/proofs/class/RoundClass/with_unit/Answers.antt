@@ -7,5 +7,5 @@ use Rattle.rounds.proofs.class.RoundClass.with_unit.Goals as goal
 pub returns : goal.returns
 returns c =
     let f = λ (n : ℕ). in_unit c.args.unit n || has_round c.args.self n in
-    let e = c.gathered.ensures f (λ n r l k. search rules) in
+    let e = c.gathered.ensures.whole f (λ n r l k. search rules) in
     record { value = ap (λ s. record { rounds = s }) e; members = λ n h. rw e (class_of-has f n h) }

@@ -1,6 +1,7 @@
-use Rattle.std.proofs.Common.{◌≡◌, ◌/◌, ◌<◌, length, sym, ◌∙◌, arith}
+use Rattle.std.proofs.Common.{◌*◌, refl, ◌/◌, ◌<◌, length, subst, sym, ◌∙◌, arith}
 use Rattle.std.proofs.lemmas.List.{length-set}
-use Rattle.sets.proofs.NumberSets.{is_set_of, small-set, in_words-added, passed, not_passed}
+use Rattle.sets.specs.NumberSets.{in_words}
+use Rattle.sets.proofs.NumberSets.{whole_of, small-set, in_words-added, one_more, added_below, added_at, added_beyond}
 use Rattle.sets.proofs.number_set.NumberSet.gathered.Goals as goal
 
 pub loop-n-preserved : goal.loop-n-preserved
@@ -9,33 +10,38 @@ loop-n-preserved g c =
       | goal.then-n+then-test w ↦
           let n = c.loop-n.n in
           let h : n / 64 < length c.loop-n.words = omega arith in
+          let added = in_words-added c.loop-n.words n w.insert.result h w.insert.ensures.added in
           record {
             many = rw w.words-is (length-set c.loop-n.words (n / 64) w.insert.result ∙ c.loop-n.invariant.many);
             small = rw w.words-is (small-set _ _ _ h w.insert.type_inv c.loop-n.invariant.small);
-            members = λ f told x l.
+            below =
                 rw w.words-is
-                (in_words-added c.loop-n.words n w.insert.result h w.insert.ensures.added x
-                ∙ passed f x n _ (sym (told n w.test.result c.loop-n-test.true w.test.ensures) ∙ w.if-test.true) (c.loop-n.invariant.members f told x l));
+                (one_more (goal.F-post g c.args.test) (in_words c.loop-n.words) _ n (64 * g.row.WORDS) c.loop-n.invariant.below
+                (added_below c.loop-n.words _ n added)
+                (λ l. let answer = w.if-test.ensures in subst (goal.F-post g c.args.test n) (sym (added_at c.loop-n.words _ n added)) answer));
+            no_more =
+                rw w.words-is
+                (λ m h l. added_beyond c.loop-n.words _ n added (λ k a b. c.loop-n.invariant.no_more k a (omega (arith, b))) m h (omega (arith, l)));
           }
       | goal.else-n w ↦
           record {
             many = rw w.words-is c.loop-n.invariant.many;
             small = rw w.words-is c.loop-n.invariant.small;
-            members = λ f told x l.
+            below =
                 rw w.words-is
-                (not_passed f x c.loop-n.n _
-                (λ e.
-                elim w.else-n.branch [
-                  | goal.else-n-via-then-n+else-test v ↦ sym (told c.loop-n.n v.test.result c.loop-n-test.true v.test.ensures) ∙ v.if-test.false
+                (one_more (goal.F-post g c.args.test) (in_words c.loop-n.words) _ c.loop-n.n (64 * g.row.WORDS) c.loop-n.invariant.below (λ m h. refl)
+                (λ l.
+                subst (goal.F-post g c.args.test c.loop-n.n) (sym (c.loop-n.invariant.no_more c.loop-n.n (omega arith) l))
+                (elim w.else-n.branch [
+                  | goal.else-n-via-then-n+else-test v ↦ let answer = v.if-test.ensures in answer
                   | goal.else-n-via-else-n v ↦ absurd (omega arith)
-                ])
-                (c.loop-n.invariant.members f told x l));
+                ])));
+            no_more = λ m h l. rw w.words-is (c.loop-n.invariant.no_more m (omega arith) l);
           }
     ]
 
 pub returns : goal.returns
-returns g c = λ f told.
-    let e : c.loop-n.n ≡ c.args.count = omega arith in
-    is_set_of g.row.WORDS (record { words = c.loop-n.words }) _
+returns g c =
+    whole_of g.row.WORDS c.args.count _ (record { words = c.loop-n.words })
     (record { many = c.loop-n.invariant.many; small = c.loop-n.invariant.small })
-    (λ x l. c.loop-n.invariant.members f told x l ∙ rw e)
+    (λ n h l. c.loop-n.invariant.below n (omega arith) l) (λ n h l. c.loop-n.invariant.no_more n (omega arith) l)
