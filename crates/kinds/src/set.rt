@@ -58,6 +58,7 @@ fn read_items<M: SetMachine>(
     ensures { result ≡ run_set M.start M.turn M.others negated bracket (drop from text.now) from M.start }
 {
     let mut state = M::start();
+    // places, not the bytes alone: an atom's length and a refusal are told by them
     for place in from..text.len() {
         match state.advance(bracket, place, text[place])? {
             ControlFlow::Continue(next) => state = next,

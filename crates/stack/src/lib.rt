@@ -80,6 +80,7 @@ pub fn clear_from<T: Copy>(slots: &mut [T], from: usize, blank: T)
     ensures { slots.new ≡ cleared_from from blank slots.old }
 {
     let start = from.min(slots.len());
+    // not `fill`, which asks for a clone that cannot fail: `Copy` does not say so
     for slot in &mut slots[start..] {
         *slot = blank;
     }
