@@ -24,6 +24,12 @@ class_of-nine f =
 pub class_of-has : (f : ℕ → Bool) (n : ℕ) → n < 9 → has_round (class_of f) n ≡ f n
 class_of-has f n h = set_of-has 1 (λ n. nat_lt n 9 && f n) n (omega arith) ∙ rw (lt-ltb n 9 h)
 
+-- Checks that agree on all rounds have one class.
+pub class_of-same : (f g : ℕ → Bool) → ((n : ℕ) → n < 9 → f n ≡ g n) → class_of f ≡ class_of g
+class_of-same f g same =
+    class_same (class_of f) (class_of g) (class_of-nine f) (class_of-nine g)
+    (λ n h. class_of-has f n h ∙ same n h ∙ sym (class_of-has g n h))
+
 pub empty-nine : Nine empty_class
 empty-nine = record { words = no_number-words 1; no_more = λ n l h. has-no_number 1 n }
 

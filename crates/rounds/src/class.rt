@@ -1,6 +1,6 @@
 ghost use Rattle.std.specs.Prelude.{◌≡◌, ℕ, ◌<◌, not, ◌||◌};
 ghost use Rattle.rounds.specs.Symbols.{round_number, in_unit};
-ghost use Rattle.rounds.specs.Class.{has_round, with_round, with_unit, others, empty_class, full_class};
+ghost use Rattle.rounds.specs.Class.{has_round, with_round, with_unit, with_rounds, others, empty_class, full_class};
 
 use crate::symbol::{COUNT, Round, RoundUnit};
 use sets::NumberSet;
@@ -48,6 +48,7 @@ impl RoundClass {
     // The class with the rounds of a unit added.
     pub fn with_unit(self, unit: RoundUnit) -> RoundClass
         ensures value { result ≡ with_unit self unit }
+        ensures rounds { result ≡ with_rounds self unit.outcome unit.side }
         ensures members { (n : ℕ) → n < 9 → has_round result n ≡ (in_unit unit n || has_round self n) }
     {
         RoundClass {
