@@ -77,7 +77,7 @@ impl fmt::Display for Refusal {
             Refusal::BackwardRange =>
                 "the range that begins here runs backward: its last byte comes before its first",
             Refusal::EmptySet => "this set has nothing in it",
-            Refusal::BaseWanted => "a unit, a group or `()` is expected here",
+            Refusal::BaseWanted => "an atom, a group or `()` is expected here",
             Refusal::NoOpenGroup => "this `)` closes no group",
             Refusal::UnfinishedGroup => "this group has no `)`",
             Refusal::TooManyGroups => "32 groups are open here already",

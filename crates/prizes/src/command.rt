@@ -72,7 +72,7 @@ impl fmt::Display for Unclear {
             Unclear::UnknownCommand => f.write_str(
                 "the command is expected to be `pattern`; without arguments, prizes explains itself",
             ),
-            Unclear::WrongWords => f.write_str("expected `prizes pattern KIND TEXT`"),
+            Unclear::WrongWords => f.write_str("expected `prizes pattern KIND PATTERN`"),
             Unclear::NoSuchKind(unknown) => write!(f, "{unknown}"),
         }
     }

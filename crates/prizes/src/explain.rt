@@ -1,9 +1,14 @@
+use crate::node::InWords;
 use crate::shown::{Shown, Symbols};
-use kinds::{Refusal, Refused};
-use std::alloc::AllocError;
+use kinds::Refused;
+use reader::limits::{MAX_GROUPS, MAX_NODES, MAX_POSITIONS};
+use reader::read;
+use reader::records::Group;
+use std::alloc::{AllocError, Global};
 use std::fmt;
+use trees::Node;
 
-// Why a text is not explained to its end.
+// Why a pattern is not explained.
 #[derive(Drop)]
 pub(crate) enum Unexplained {
     Refused(Refused),
@@ -22,22 +27,53 @@ impl From<AllocError> for Unexplained {
     }
 }
 
-// Explains a text that is one atom after another, by a line for each atom. The lines of the atoms
-// before a fault are left.
-pub(crate) fn explained<K: Shown>(text: &str, lines: &mut String) -> Result<(), Unexplained> {
-    let bytes = text.as_bytes();
-    if bytes.is_empty() || bytes.len() > 1024 {
-        return Err(Refusal::TextLength.at(0).into());
+// Explains a pattern: how many nodes and positions it has, then each of them on a line.
+pub(crate) fn explained<K: Shown>(
+    heap: Global,
+    text: &str,
+    lines: &mut String,
+) -> Result<(), Unexplained> {
+    let mut nodes = vec![in heap; Node::cleared(); MAX_NODES]?;
+    let mut classes = vec![in heap; K::cleared_class(); MAX_POSITIONS]?;
+    let mut groups = vec![in heap; Group::cleared(); MAX_GROUPS]?;
+    let counts = read::<K>(
+        text.as_bytes(),
+        nodes.as_mut_slice(),
+        classes.as_mut_slice(),
+        groups.as_mut_slice(),
+    )?;
+    let of_nodes = counted(counts.nodes, "node", "nodes");
+    let of_positions = counted(counts.positions, "position", "positions");
+    writeln!(
+        lines,
+        "{} {of_nodes}, {} {of_positions}",
+        counts.nodes, counts.positions,
+    )?;
+    tell_nodes(nodes.as_slice(), counts.nodes, lines)?;
+    tell_positions::<K>(classes.as_slice(), counts.positions, lines)?;
+    Ok(())
+}
+
+fn counted(count: usize, one: &'static str, more: &'static str) -> &'static str {
+    if count == 1 { one } else { more }
+}
+
+// The node list, a line for each node, the root last.
+fn tell_nodes(nodes: &[Node], count: usize, lines: &mut String) -> Result<(), AllocError> {
+    for (number, node) in nodes.iter().take(count).enumerate() {
+        writeln!(lines, "node {number}: {}", InWords(*node))?;
     }
-    let mut place = 0;
-    // a while: each step is as long as the atom that it reads
-    while place < bytes.len() {
-        let atom = K::read_atom(bytes, place)?;
-        let length = atom.length;
-        let unit = if length == 1 { "byte" } else { "bytes" };
-        let symbols = Symbols::<K>(atom.class);
-        writeln!(lines, "atom at {place}, {length} {unit}: admits{symbols}")?;
-        place += length;
+    Ok(())
+}
+
+// The positions, counted from 1, with the symbols that each admits.
+fn tell_positions<K: Shown>(
+    classes: &[K::Class],
+    count: usize,
+    lines: &mut String,
+) -> Result<(), AllocError> {
+    for (position, class) in (1usize..).zip(classes.iter().take(count)) {
+        writeln!(lines, "position {position}: admits{}", Symbols::<K>(*class))?;
     }
     Ok(())
 }
@@ -70,24 +106,75 @@ mod tests {
     use super::*;
     use byte_kind::Bytes;
     use rounds::Rounds;
-    use std::alloc::Global;
     use std::test::Fail;
 
     // A text with what is to be told of it.
-    #[derive(Clone, Copy)]
-    struct Expected {
-        text: &'static str,
-        told: &'static str,
-    }
+    type Expected = (&'static str, &'static str);
 
-    const fn line(text: &'static str, told: &'static str) -> Expected {
-        Expected { text, told }
-    }
+    const BYTES: &[Expected] = &[
+        (
+            "[a-c]",
+            "1 node, 1 position\nnode 0: position 1\nposition 1: admits 'a'-'c'\n",
+        ),
+        (
+            ".",
+            "1 node, 1 position\nnode 0: position 1\nposition 1: admits 0x00-0x09 0x0b-0xff\n",
+        ),
+        (
+            "[^a]",
+            "1 node, 1 position\nnode 0: position 1\nposition 1: admits 0x00-'`' 'b'-0xff\n",
+        ),
+        ("()", "1 node, 0 positions\nnode 0: the empty word\n"),
+        (
+            " ~",
+            "3 nodes, 2 positions\nnode 0: position 1\nnode 1: position 2\nnode 2: sequence of 0 and 1\nposition 1: admits 0x20\nposition 2: admits '~'\n",
+        ),
+        (
+            "(a|b)*c+d?",
+            "10 nodes, 4 positions\nnode 0: position 1\nnode 1: position 2\nnode 2: choice of 0 and 1\nnode 3: star of 2\nnode 4: position 3\nnode 5: plus of 4\nnode 6: sequence of 3 and 5\nnode 7: position 4\nnode 8: option of 7\nnode 9: sequence of 6 and 8\nposition 1: admits 'a'\nposition 2: admits 'b'\nposition 3: admits 'c'\nposition 4: admits 'd'\n",
+        ),
+        (
+            "[b-a]",
+            "[b-a]\n ^\nrefused 6 at 1: the range that begins here runs backward: its last byte comes before its first\n",
+        ),
+        (
+            "a\\",
+            "a\\\n ^\nrefused 4 at 1: the text ends here, and `\\` wants a byte after it\n",
+        ),
+        (
+            "a|",
+            "a|\n  ^\nrefused 8 at 2: an atom, a group or `()` is expected here\n",
+        ),
+        ("(a", "(a\n^\nrefused 10 at 0: this group has no `)`\n"),
+        // é has two bytes, and the caret counts it as one character
+        ("é[", "é[\n ^\nrefused 5 at 2: this set has no `]`\n"),
+        (
+            "\t[]",
+            "?[]\n ^\nrefused 7 at 1: this set has nothing in it\n",
+        ),
+    ];
+
+    const ROUNDS: &[Expected] = &[
+        (
+            "LWb",
+            "3 nodes, 2 positions\nnode 0: position 1\nnode 1: position 2\nnode 2: sequence of 0 and 1\nposition 1: admits Lw Lb Lu\nposition 2: admits Wb\n",
+        ),
+        (
+            "[^WDL]",
+            "1 node, 1 position\nnode 0: position 1\nposition 1: admits\n",
+        ),
+        ("[Ww", "[Ww\n^\nrefused 5 at 0: this set has no `]`\n"),
+        (
+            "w",
+            "w\n^\nrefused 3 at 0: nothing that can be matched begins with this byte\n",
+        ),
+        ("", "\n^\nrefused 1 at 0: a pattern has 1 to 1,024 bytes\n"),
+    ];
 
     // The lines of a text, and behind them its fault if it is refused.
     fn told<K: Shown>(heap: Global, text: &str) -> Result<String, AllocError> {
         let mut lines = String::new(heap);
-        match explained::<K>(text, &mut lines) {
+        match explained::<K>(heap, text, &mut lines) {
             Ok(()) => {}
             Err(Unexplained::Refused(refused)) => write!(lines, "{}", Pointed { text, refused })?,
             Err(Unexplained::NoMemory(error)) => return Err(error),
@@ -101,8 +188,8 @@ mod tests {
         table: &[Expected],
     ) -> Result<Option<usize>, AllocError> {
         // a for: what is told can fail for want of memory
-        for (i, line) in table.iter().enumerate() {
-            if told::<K>(heap, line.text)?.as_str() != line.told {
+        for (i, (text, wanted)) in table.iter().enumerate() {
+            if told::<K>(heap, text)?.as_str() != *wanted {
                 return Ok(Some(i));
             }
         }
@@ -111,53 +198,13 @@ mod tests {
 
     #[test]
     fn bytes_are_told_as_runs(rt: HostRuntime) -> Result<(), Fail> {
-        let table = [
-            line("[a-c]", "atom at 0, 5 bytes: admits 'a'-'c'\n"),
-            line(".", "atom at 0, 1 byte: admits 0x00-0x09 0x0b-0xff\n"),
-            line("[^a]", "atom at 0, 4 bytes: admits 0x00-'`' 'b'-0xff\n"),
-            line("[a-]", "atom at 0, 4 bytes: admits '-' 'a'\n"),
-            line(
-                " ~",
-                "atom at 0, 1 byte: admits 0x20\natom at 1, 1 byte: admits '~'\n",
-            ),
-            line(
-                "[b-a]",
-                "[b-a]\n ^\nrefused 6 at 1: the range that begins here runs backward: its last byte comes before its first\n",
-            ),
-            line(
-                "a\\",
-                "atom at 0, 1 byte: admits 'a'\na\\\n ^\nrefused 4 at 1: the text ends here, and `\\` wants a byte after it\n",
-            ),
-            // é has two bytes, and the caret counts it as one character
-            line(
-                "é[",
-                "atom at 0, 1 byte: admits 0xc3\natom at 1, 1 byte: admits 0xa9\né[\n ^\nrefused 5 at 2: this set has no `]`\n",
-            ),
-            line(
-                "\t[]",
-                "atom at 0, 1 byte: admits 0x09\n?[]\n ^\nrefused 7 at 1: this set has nothing in it\n",
-            ),
-        ];
-        assert_eq!(rt; first_wrong::<Bytes>(rt.alloc(), &table)?, None);
+        assert_eq!(rt; first_wrong::<Bytes>(rt.alloc(), BYTES)?, None);
         Ok(())
     }
 
     #[test]
     fn rounds_are_told_as_units(rt: HostRuntime) -> Result<(), Fail> {
-        let table = [
-            line(
-                "LWb",
-                "atom at 0, 1 byte: admits Lw Lb Lu\natom at 1, 2 bytes: admits Wb\n",
-            ),
-            line("[^WDL]", "atom at 0, 6 bytes: admits\n"),
-            line("[Ww", "[Ww\n^\nrefused 5 at 0: this set has no `]`\n"),
-            line(
-                "w",
-                "w\n^\nrefused 3 at 0: nothing that can be matched begins with this byte\n",
-            ),
-            line("", "\n^\nrefused 1 at 0: a pattern has 1 to 1,024 bytes\n"),
-        ];
-        assert_eq!(rt; first_wrong::<Rounds>(rt.alloc(), &table)?, None);
+        assert_eq!(rt; first_wrong::<Rounds>(rt.alloc(), ROUNDS)?, None);
         Ok(())
     }
 }

@@ -1,8 +1,9 @@
-// The program `prizes`. So far it explains a pattern's text atom by atom: `prizes pattern KIND TEXT`.
+// The program `prizes`. So far it explains a pattern: `prizes pattern KIND PATTERN`.
 #![tactic(auto)]
 
 mod command;
 mod explain;
+mod node;
 mod shown;
 
 use crate::command::{Command, KindName, Unclear, read_command};
@@ -12,10 +13,10 @@ use byte_kind::Bytes;
 use rounds::Rounds;
 use std::alloc::Global;
 
-const USAGE: &str = "usage: prizes pattern KIND TEXT
+const USAGE: &str = "usage: prizes pattern KIND PATTERN
 
-Explains a text that is one atom after another: where each stands, how many bytes spell it, and
-which symbols it admits; or why the text is refused, and where.
+Explains a pattern: its tree as a list of nodes, the root last, and its positions with the symbols
+that each admits; or why the pattern is refused, and where.
 
 KIND  bytes   symbols are bytes, as in the moves of a game file
       rounds  symbols are a player's rounds: Ww is a win with White, Lb a loss with Black,
@@ -38,19 +39,19 @@ fn main(rt: HostRuntime) -> anyhow::Result<()> {
     }
 }
 
-// Prints what can be told of a text; a text that is refused is an error.
+// Prints what is told of a pattern; one that is refused is an error.
 fn tell(rt: &impl Print, heap: Global, kind: KindName, text: &str) -> anyhow::Result<()> {
     let mut lines = String::new(heap);
     // a match: each kind is a type of its own, and there is one for each name
     let told = match kind {
-        KindName::Bytes => explained::<Bytes>(text, &mut lines),
-        KindName::Rounds => explained::<Rounds>(text, &mut lines),
+        KindName::Bytes => explained::<Bytes>(heap, text, &mut lines),
+        KindName::Rounds => explained::<Rounds>(heap, text, &mut lines),
     };
     match told {
         Ok(()) => Ok(rt.print(lines.as_str())?),
         Err(Unexplained::Refused(refused)) => {
             print!(rt; "{}{}", lines.as_str(), Pointed { text, refused })?;
-            Err(anyhow!("the text is refused"))
+            Err(anyhow!("the pattern is refused"))
         }
         Err(Unexplained::NoMemory(error)) => Err(error.into()),
     }
