@@ -17,15 +17,15 @@ impl<const WORDS: usize> NumberSet<WORDS> {
         NumberSet { words: [0; WORDS] }
     }
 
-    // The numbers below a count that pass a test, as far as there are words for them. The test may be called at
+    // The numbers below a count that pass, as far as there are words for them. What decides may be called at
     // any number: a call of a closure asks for that, and nothing else is asked.
-    pub fn gathered<F: Fn(usize) -> bool>(count: usize, test: F) -> Self
-        requires { F.IsAlwaysCallable test }
-        ensures { Gathered (F.post test) count result }
+    pub fn gathered<F: Fn(usize) -> bool>(count: usize, passes: F) -> Self
+        requires { F.IsAlwaysCallable passes }
+        ensures { Gathered (F.post passes) count result }
     {
         let mut words = [0; WORDS];
         for n in 0..count {
-            if n / 64 < WORDS && test(n) {
+            if n / 64 < WORDS && passes(n) {
                 words[n / 64] = insert(words[n / 64], n % 64);
             }
         }

@@ -7,7 +7,7 @@ use Rattle.sets.proofs.number_set.NumberSet.gathered.Goals as goal
 pub loop-n-preserved : goal.loop-n-preserved
 loop-n-preserved g c =
     elim c.if-n.branch [
-      | goal.then-n+then-test w ↦
+      | goal.then-n+then-passes w ↦
           let n = c.loop-n.n in
           let h : n / 64 < length c.loop-n.words = omega arith in
           let added = in_words-added c.loop-n.words n w.insert.result h w.insert.ensures.added in
@@ -16,9 +16,9 @@ loop-n-preserved g c =
             small = rw w.words-is (small-set _ _ _ h w.insert.type_inv c.loop-n.invariant.small);
             below =
                 rw w.words-is
-                (one_more (goal.F-post g c.args.test) (in_words c.loop-n.words) _ n (64 * g.row.WORDS) c.loop-n.invariant.below
+                (one_more (goal.F-post g c.args.passes) (in_words c.loop-n.words) _ n (64 * g.row.WORDS) c.loop-n.invariant.below
                 (added_below c.loop-n.words _ n added)
-                (λ l. let answer = w.if-test.ensures in subst (goal.F-post g c.args.test n) (sym (added_at c.loop-n.words _ n added)) answer));
+                (λ l. let answer = w.if-passes.ensures in subst (goal.F-post g c.args.passes n) (sym (added_at c.loop-n.words _ n added)) answer));
             no_more =
                 rw w.words-is
                 (λ m h l. added_beyond c.loop-n.words _ n added (λ k a b. c.loop-n.invariant.no_more k a (omega (arith, b))) m h (omega (arith, l)));
@@ -29,11 +29,11 @@ loop-n-preserved g c =
             small = rw w.words-is c.loop-n.invariant.small;
             below =
                 rw w.words-is
-                (one_more (goal.F-post g c.args.test) (in_words c.loop-n.words) _ c.loop-n.n (64 * g.row.WORDS) c.loop-n.invariant.below (λ m h. refl)
+                (one_more (goal.F-post g c.args.passes) (in_words c.loop-n.words) _ c.loop-n.n (64 * g.row.WORDS) c.loop-n.invariant.below (λ m h. refl)
                 (λ l.
-                subst (goal.F-post g c.args.test c.loop-n.n) (sym (c.loop-n.invariant.no_more c.loop-n.n (omega arith) l))
+                subst (goal.F-post g c.args.passes c.loop-n.n) (sym (c.loop-n.invariant.no_more c.loop-n.n (omega arith) l))
                 (elim w.else-n.branch [
-                  | goal.else-n-via-then-n+else-test v ↦ let answer = v.if-test.ensures in answer
+                  | goal.else-n-via-then-n+else-passes v ↦ let answer = v.if-passes.ensures in answer
                   | goal.else-n-via-else-n v ↦ absurd (omega arith)
                 ])));
             no_more = λ m h l. rw w.words-is (c.loop-n.invariant.no_more m (omega arith) l);
