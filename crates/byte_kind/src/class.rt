@@ -37,9 +37,9 @@ impl ByteClass {
         ensures value { result ≡ ranged self first last }
         ensures members { (b : ℕ) → b < 256 → has_byte result b ≡ (between first last b || has_byte self b) }
     {
-        let (first, last) = (usize::from(first), usize::from(last));
+        let end = usize::from(last) + 1;
         ByteClass {
-            bytes: NumberSet::gathered(256, |b| first <= b && b <= last || self.bytes.has(b)),
+            bytes: self.bytes.with_span(256, usize::from(first), end),
         }
     }
 
@@ -49,7 +49,7 @@ impl ByteClass {
         ensures members { (b : ℕ) → b < 256 → has_byte result b ≡ not (has_byte self b) }
     {
         ByteClass {
-            bytes: NumberSet::gathered(256, |b| !self.bytes.has(b)),
+            bytes: self.bytes.others(256),
         }
     }
 }

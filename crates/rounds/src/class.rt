@@ -2,7 +2,7 @@ ghost use Rattle.std.specs.Prelude.{◌≡◌, ℕ, ◌<◌, not, ◌||◌};
 ghost use Rattle.rounds.specs.Symbols.{round_number, in_unit};
 ghost use Rattle.rounds.specs.Class.{has_round, with_round, with_unit, with_rounds, others, empty_class, full_class};
 
-use crate::symbol::{COUNT, Round, RoundUnit};
+use crate::symbol::{COUNT, Round, RoundUnit, Side};
 use sets::NumberSet;
 
 // A set of rounds, each by its number.
@@ -41,7 +41,7 @@ impl RoundClass {
     {
         let added = usize::from(round);
         RoundClass {
-            rounds: NumberSet::gathered(COUNT, |n| n == added || self.rounds.has(n)),
+            rounds: self.rounds.with_span(COUNT, added, added + 1),
         }
     }
 
@@ -51,8 +51,23 @@ impl RoundClass {
         ensures rounds { result ≡ with_rounds self unit.outcome unit.side }
         ensures members { (n : ℕ) → n < 9 → has_round result n ≡ (in_unit unit n || has_round self n) }
     {
-        RoundClass {
-            rounds: NumberSet::gathered(COUNT, |n| unit.admits(n) || self.rounds.has(n)),
+        let outcome = unit.outcome;
+        match unit.side {
+            Some(side) => self.with_round(Round { side, outcome }),
+            None => {
+                let white = self.with_round(Round {
+                    side: Side::White,
+                    outcome,
+                });
+                let played = white.with_round(Round {
+                    side: Side::Black,
+                    outcome,
+                });
+                played.with_round(Round {
+                    side: Side::Unplayed,
+                    outcome,
+                })
+            }
         }
     }
 
@@ -62,7 +77,7 @@ impl RoundClass {
         ensures members { (n : ℕ) → n < 9 → has_round result n ≡ not (has_round self n) }
     {
         RoundClass {
-            rounds: NumberSet::gathered(COUNT, |n| !self.rounds.has(n)),
+            rounds: self.rounds.others(COUNT),
         }
     }
 }

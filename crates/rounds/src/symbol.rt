@@ -1,5 +1,5 @@
 ghost use Rattle.std.specs.Prelude.{◌≡◌, ◌<◌};
-ghost use Rattle.rounds.specs.Symbols.{side_number, outcome_number, round_number, side_of, outcome_of, in_unit, IsRoundOf};
+ghost use Rattle.rounds.specs.Symbols.{side_number, outcome_number, round_number, side_of, outcome_of, IsRoundOf};
 
 use std::error::Error;
 use std::fmt;
@@ -86,16 +86,6 @@ impl TryFrom<usize> for Round {
         } else {
             Err(UnknownRound(n))
         }
-    }
-}
-
-impl RoundUnit {
-    // Whether the round of a number is one of the unit's.
-    pub(crate) fn admits(self, n: usize) -> bool
-        ensures { result ≡ in_unit self n }
-    {
-        n % 3 == usize::from(self.outcome)
-            && self.side.is_none_or(|side| n / 3 == usize::from(side))
     }
 }
 

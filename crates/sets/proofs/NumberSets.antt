@@ -1,14 +1,18 @@
-use Rattle.std.proofs.Common.{◌≡◌, ℕ, zero, suc, ◌+◌, ◌*◌, ◌/◌, ◌%◌, ◌^◌, ◌<◌, ◌≤◌, Bool, false, ◌||◌, ◌⊎◌, ◌&&◌, true, List, length, get_or, set, replicate, refl, sym, ap, ◌∙◌, subst, inl, inr, arith}
-use Rattle.std.specs.Prelude.{◌==◌, ◌≢◌, nat_lt}
+use Rattle.std.proofs.Common.{◌≡◌, ℕ, zero, suc, ◌+◌, ◌-◌, ◌*◌, ◌/◌, ◌%◌, ◌^◌, ◌<◌, ◌≤◌, Bool, false, not, ◌||◌, ◌⊎◌, ◌&&◌, true, List, length, get_or, set, replicate, refl, sym, ap, ◌∙◌, subst, inl, inr, pow_pos, arith}
+use Rattle.std.proofs.Math.Pow.{pow_mono}
+use Rattle.std.specs.Prelude.{◌==◌, ◌≢◌, nat_le, nat_lt}
+use Rattle.std.specs.Int.Bits.{bit_and, bit_or, and_lt}
+use Rattle.std.proofs.lemmas.Nat.{or_lt}
+use Rattle.sets.proofs.Bools.{or_comm}
 use Rattle.std.proofs.lemmas.Bool.{cases_eq, cases_lt, ne_eqb, lt-ltb, le-ltb, eq-eqb}
 use Rattle.std.proofs.lemmas.Bool.Decides.{nat_tests}
 use Rattle.sets.specs.Laws.{Added}
-use Rattle.std.proofs.lemmas.List.{ext_get_or, get_or-replicate, get_or-set_same, get_or-set_other, get_or_past, length-replicate}
+use Rattle.std.proofs.lemmas.List.{ext_get_or, get_or-replicate, get_or-set_same, get_or-set_other, get_or_past, length-replicate, length-set}
 use Rattle.std.proofs.lemmas.Nat.{div-mul-add, mod-mul-add}
 use Rattle.sets.specs.Sets.{member, gathered}
 use Rattle.sets.specs.declared.number_set.NumberSet.{NumberSet}
-use Rattle.sets.specs.NumberSets.{in_words, has, no_number, words_of, set_of, Gathered, Words}
-use Rattle.sets.proofs.Bits.{member-gathered, gathered-lt, sets_same, bit-none}
+use Rattle.sets.specs.NumberSets.{in_words, has, no_number, words_of, set_of, word_below, Gathered, Words}
+use Rattle.sets.proofs.Bits.{member-gathered, gathered-lt, gathered-same, sets_same, bit-none, member-not, member-past, member-or, member-and}
 
 length-words_of : (f : ℕ → Bool) (i w : ℕ) → length (words_of f i w) ≡ w
 unfolding words_of
@@ -129,3 +133,95 @@ module _ (words after : List ℕ) (n : ℕ) (added : (x : ℕ) → in_words afte
   pub added_beyond : ((m : ℕ) → n ≤ m → m < 64 * length words → in_words words m ≡ false) → (m : ℕ) → n + 1 ≤ m → m < 64 * length words
       → in_words after m ≡ false
   added_beyond none m h l = added m ∙ rw (ne_eqb m n (λ e. omega arith)) (none m (omega arith) l)
+
+-- Word i of the numbers below a limit, as it is computed: all ones up to a bit.
+ones_below : (k : ℕ) → k ≤ 64 → 2 ^ k - 1 ≡ gathered (λ j. nat_lt j k) 64
+ones_below k h =
+    sets_same 64 (2 ^ k - 1) (gathered (λ j. nat_lt j k) 64) (let p = pow_pos k in let m = pow_mono h in omega arith)
+    (gathered-lt (λ j. nat_lt j k) 64)
+    (λ x l. go x (cases_lt x k) ∙ sym (member-gathered (λ j. nat_lt j k) 64 x l))
+  where
+    go : (x : ℕ) → (x < k) ⊎ (k ≤ x) → member (2 ^ k - 1) x ≡ nat_lt x k
+    go x (inl m) =
+        let p = pow_pos k in
+        let e : 2 ^ k - 1 - 0 ≡ 2 ^ k - 1 = omega arith in
+        rw e at (member-not k 0 x p m) ∙ rw (bit-none x) (sym (lt-ltb x k m))
+    go x (inr m) = let p = pow_pos k in member-past k (2 ^ k - 1) x (omega arith) m ∙ sym (le-ltb x k m)
+
+pub ones_are : (limit i k : ℕ) → k ≤ 64 → ((j : ℕ) → j < 64 → nat_lt j k ≡ nat_lt (i * 64 + j) limit) → 2 ^ k - 1 ≡ word_below limit i
+ones_are limit i k h same = ones_below k h ∙ gathered-same 64 (λ j. nat_lt j k) (λ j. nat_lt (i * 64 + j) limit) same
+
+-- Words that are made anew one after another: those below i have the numbers that pass a test, those from i on are
+-- as they were.
+pub record Remade (f : ℕ → Bool) (w i : ℕ) (old words : List ℕ) : Type 0 where
+  pub many : length words ≡ w
+  pub small : (q : ℕ) → get_or words q 0 < 2 ^ 64
+  pub done : (q x : ℕ) → q < i → x < 64 → member (get_or words q 0) x ≡ f (q * 64 + x)
+  pub left : (q : ℕ) → i ≤ q → get_or words q 0 ≡ get_or old q 0
+
+module _ (f : ℕ → Bool) (w : ℕ) (old words : List ℕ) where
+  -- One word more.
+  pub remade_more : (i r : ℕ) → Remade f w i old words → i < w → r < 2 ^ 64 → ((x : ℕ) → x < 64 → member r x ≡ f (i * 64 + x))
+      → Remade f w (i + 1) old (set words i r)
+  remade_more i r before h l made =
+      let m = before.many in
+      let k : i < length words = omega arith in
+      record {
+        many = length-set words i r ∙ before.many;
+        small = small-set words i r k l before.small;
+        done = λ q x b n. done q x b n (cases_eq q i);
+        left = λ q b. get_or-set_other words i q r 0 (λ e. omega arith) ∙ before.left q (omega arith);
+      }
+    where
+      done : (q x : ℕ) → q < i + 1 → x < 64 → (q ≡ i) ⊎ (q ≢ i) → member (get_or (set words i r) q 0) x ≡ f (q * 64 + x)
+      done q x b n (inl e) = let m = before.many in rw e (rw (get_or-set_same words i r 0 (omega arith)) (made x n))
+      done q x b n (inr e) = rw (get_or-set_other words i q r 0 e) (before.done q x (omega arith) n)
+
+  -- All of them.
+  pub remade_all : (i : ℕ) → w ≤ i → Remade f w i old words → ◌≡◌ {A = NumberSet w} (record { words = words }) (set_of f)
+  remade_all i h all =
+      is_set_of w (record { words = words }) f (record { many = all.many; small = all.small })
+      (λ n l. all.done (n / 64) (n % 64) (omega arith) (omega arith) ∙ ap f (omega arith))
+
+-- Number x of a word, in the whole.
+has_at : (words : List ℕ) (i x : ℕ) → x < 64 → in_words words (i * 64 + x) ≡ member (get_or words i 0) x
+has_at words i x h = rw (div-mul-add i 64 x h, mod-mul-add i 64 x h)
+
+-- The words that the program makes of a word: what a set lacks, and a set with a span.
+and_swap : (x y : Bool) → (x && y) ≡ (y && x)
+and_swap true true = refl
+and_swap true false = refl
+and_swap false true = refl
+and_swap false false = refl
+
+span_swap : (a e f l : Bool) → ((a || (e && not f)) && l) ≡ (l && ((not f && e) || a))
+span_swap a e f l = rw (and_swap e (not f), or_comm a (not f && e)) (and_swap ((not f && e) || a) l)
+
+from_first : (n first : ℕ) → not (nat_lt n first) ≡ nat_le first n
+from_first n first = grind (arith, nat_tests)
+
+module _ (w limit : ℕ) (old words : List ℕ) (i : ℕ) where
+  pub others_more : Remade (λ n. nat_lt n limit && not (in_words old n)) w i old words → i < w
+      → Remade (λ n. nat_lt n limit && not (in_words old n)) w (i + 1) old (set words i (bit_and (2 ^ 64 - 1 - get_or words i 0) (word_below limit i)))
+  others_more before h =
+      remade_more _ w old words i _ before h (and_lt 64 _ _ (omega arith) (gathered-lt (λ j. nat_lt (i * 64 + j) limit) 64))
+      (λ x l.
+      member-and (2 ^ 64 - 1 - get_or words i 0) (word_below limit i) x
+      ∙ rw (member-not 64 (get_or words i 0) x (before.small i) l, member-gathered (λ j. nat_lt (i * 64 + j) limit) 64 x l, before.left i (omega arith), has_at old i x l)
+      (and_swap (not (member (get_or old i 0) x)) (nat_lt (i * 64 + x) limit)))
+
+  pub span_more : (first end : ℕ) → Remade (λ n. nat_lt n limit && (nat_le first n && nat_lt n end || in_words old n)) w i old words → i < w
+      → Remade (λ n. nat_lt n limit && (nat_le first n && nat_lt n end || in_words old n)) w (i + 1) old
+      (set words i (bit_and (bit_or (get_or words i 0) (bit_and (word_below end i) (2 ^ 64 - 1 - word_below first i))) (word_below limit i)))
+  span_more first end before h =
+      remade_more _ w old words i _ before h
+      (and_lt 64 _ _ (or_lt 64 _ _ (before.small i) (and_lt 64 _ _ (gathered-lt (λ j. nat_lt (i * 64 + j) end) 64) (omega arith))) (gathered-lt (λ j. nat_lt (i * 64 + j) limit) 64))
+      (λ x l.
+      member-and (bit_or (get_or words i 0) (bit_and (word_below end i) (2 ^ 64 - 1 - word_below first i))) (word_below limit i) x
+      ∙ rw (member-or (get_or words i 0) (bit_and (word_below end i) (2 ^ 64 - 1 - word_below first i)) x,
+      member-and (word_below end i) (2 ^ 64 - 1 - word_below first i) x,
+      member-not 64 (word_below first i) x (gathered-lt (λ j. nat_lt (i * 64 + j) first) 64) l,
+      member-gathered (λ j. nat_lt (i * 64 + j) first) 64 x l, member-gathered (λ j. nat_lt (i * 64 + j) end) 64 x l,
+      member-gathered (λ j. nat_lt (i * 64 + j) limit) 64 x l, before.left i (omega arith), has_at old i x l)
+      (span_swap (member (get_or old i 0) x) (nat_lt (i * 64 + x) end) (nat_lt (i * 64 + x) first) (nat_lt (i * 64 + x) limit)
+      ∙ rw (from_first (i * 64 + x) first)))

@@ -13,6 +13,10 @@ has s n = in_words s.words n
 abbrev pub no_number : {w : ℕ} → NumberSet w
 no_number {w} = record { words = replicate w 0 }
 
+-- Word i of the numbers below a limit.
+abbrev pub word_below : ℕ → ℕ → ℕ
+word_below limit i = gathered (λ j. nat_lt (i * 64 + j) limit) 64
+
 -- So many words from word i on, with the numbers that pass a test.
 unfoldable pub words_of : (ℕ → Bool) → ℕ → ℕ → List ℕ
 words_of f i zero = []

@@ -1,5 +1,5 @@
-ghost use Rattle.std.specs.Prelude.{◌≡◌};
-ghost use Rattle.sets.specs.NumberSets.{has, no_number, Gathered};
+ghost use Rattle.std.specs.Prelude.{◌≡◌, not, ◌&&◌, ◌||◌, nat_le, nat_lt};
+ghost use Rattle.sets.specs.NumberSets.{has, no_number, set_of, word_below, Gathered};
 
 use crate::{contains, insert};
 
@@ -32,9 +32,46 @@ impl<const WORDS: usize> NumberSet<WORDS> {
         NumberSet { words }
     }
 
+    // The numbers below a count that the set has, or that lie from a first one on before an end. Whole words, here
+    // and in `others`: a class is made anew for each item of a set, and a test of every number would take far longer.
+    pub fn with_span(self, count: usize, first: usize, end: usize) -> Self
+        ensures { result ≡ set_of (λ n. nat_lt n count && (nat_le first n && nat_lt n end || has self.entry n)) }
+    {
+        let mut words = self.words;
+        for i in 0..WORDS {
+            let span = below(end, i) & !below(first, i);
+            words[i] = (words[i] | span) & below(count, i);
+        }
+        NumberSet { words }
+    }
+
+    // The numbers below a count that the set lacks.
+    pub fn others(self, count: usize) -> Self
+        ensures { result ≡ set_of (λ n. nat_lt n count && not (has self.entry n)) }
+    {
+        let mut words = self.words;
+        for i in 0..WORDS {
+            words[i] = !words[i] & below(count, i);
+        }
+        NumberSet { words }
+    }
+
     pub fn has(&self, n: usize) -> bool
         ensures { result ≡ has self.now n }
     {
         n / 64 < WORDS && contains(self.words[n / 64], n % 64)
+    }
+}
+
+// Word i of the numbers below a limit.
+fn below(limit: usize, i: usize) -> u64
+    ensures { result ≡ word_below limit i }
+{
+    if i < limit / 64 {
+        !0
+    } else if i == limit / 64 {
+        (1 << (limit % 64)) - 1
+    } else {
+        0
     }
 }
