@@ -41,7 +41,7 @@ impl RoundClass {
     {
         let added = usize::from(round);
         RoundClass {
-            rounds: self.rounds.with_span(COUNT, added, added + 1),
+            rounds: self.rounds.with(COUNT, added),
         }
     }
 

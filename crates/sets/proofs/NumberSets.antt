@@ -1,5 +1,6 @@
 use Rattle.std.proofs.Common.{◌≡◌, ℕ, zero, suc, ◌+◌, ◌-◌, ◌*◌, ◌/◌, ◌%◌, ◌^◌, ◌<◌, ◌≤◌, Bool, false, not, ◌||◌, ◌⊎◌, ◌&&◌, true, List, length, get_or, set, replicate, refl, sym, ap, ◌∙◌, subst, inl, inr, pow_pos, arith}
 use Rattle.std.proofs.Math.Pow.{pow_mono}
+use lib.Pow.{pow-lt}
 use Rattle.std.specs.Prelude.{◌==◌, ◌≢◌, nat_le, nat_lt}
 use Rattle.std.specs.Int.Bits.{bit_and, bit_or, and_lt}
 use Rattle.std.proofs.lemmas.Nat.{or_lt}
@@ -11,8 +12,8 @@ use Rattle.std.proofs.lemmas.List.{ext_get_or, get_or-replicate, get_or-set_same
 use Rattle.std.proofs.lemmas.Nat.{div-mul-add, mod-mul-add}
 use Rattle.sets.specs.Sets.{member, gathered}
 use Rattle.sets.specs.declared.number_set.NumberSet.{NumberSet}
-use Rattle.sets.specs.NumberSets.{in_words, has, no_number, words_of, set_of, word_below, Gathered, Words}
-use Rattle.sets.proofs.Bits.{member-gathered, gathered-lt, gathered-same, sets_same, bit-none, member-not, member-past, member-or, member-and}
+use Rattle.sets.specs.NumberSets.{in_words, has, no_number, words_of, set_of, word_of, Gathered, Words}
+use Rattle.sets.proofs.Bits.{member-gathered, gathered-lt, gathered-same, sets_same, bit-none, member-not, member-past, member-or, member-and, member-single}
 
 length-words_of : (f : ℕ → Bool) (i w : ℕ) → length (words_of f i w) ≡ w
 unfolding words_of
@@ -134,7 +135,7 @@ module _ (words after : List ℕ) (n : ℕ) (added : (x : ℕ) → in_words afte
       → in_words after m ≡ false
   added_beyond none m h l = added m ∙ rw (ne_eqb m n (λ e. omega arith)) (none m (omega arith) l)
 
--- Word i of the numbers below a limit, as it is computed: all ones up to a bit.
+-- Word i of the numbers below a limit, as it is computed: ones up to a bit.
 ones_below : (k : ℕ) → k ≤ 64 → 2 ^ k - 1 ≡ gathered (λ j. nat_lt j k) 64
 ones_below k h =
     sets_same 64 (2 ^ k - 1) (gathered (λ j. nat_lt j k) 64) (let p = pow_pos k in let m = pow_mono h in omega arith)
@@ -148,8 +149,25 @@ ones_below k h =
         rw e at (member-not k 0 x p m) ∙ rw (bit-none x) (sym (lt-ltb x k m))
     go x (inr m) = let p = pow_pos k in member-past k (2 ^ k - 1) x (omega arith) m ∙ sym (le-ltb x k m)
 
-pub ones_are : (limit i k : ℕ) → k ≤ 64 → ((j : ℕ) → j < 64 → nat_lt j k ≡ nat_lt (i * 64 + j) limit) → 2 ^ k - 1 ≡ word_below limit i
+pub ones_are : (limit i k : ℕ) → k ≤ 64 → ((j : ℕ) → j < 64 → nat_lt j k ≡ nat_lt (i * 64 + j) limit)
+    → 2 ^ k - 1 ≡ word_of (λ m. nat_lt m limit) i
 ones_are limit i k h same = ones_below k h ∙ gathered-same 64 (λ j. nat_lt j k) (λ j. nat_lt (i * 64 + j) limit) same
+
+-- Word i of the set of one number, likewise.
+pub single_is : (n i : ℕ) → i ≡ n / 64 → 2 ^ (n % 64) ≡ word_of (λ m. m == n) i
+single_is n i e =
+    let k : n % 64 < 64 = omega arith in
+    sets_same 64 (2 ^ (n % 64)) (word_of (λ m. m == n) i) (pow-lt k) (gathered-lt (λ j. (i * 64 + j) == n) 64)
+    (λ x l. member-single (n % 64) x ∙ same x l (cases_eq x (n % 64)) ∙ sym (member-gathered (λ j. (i * 64 + j) == n) 64 x l))
+  where
+    same : (x : ℕ) → x < 64 → (x ≡ n % 64) ⊎ (x ≢ n % 64) → (x == n % 64) ≡ ((i * 64 + x) == n)
+    same x l (inl h) = eq-eqb x (n % 64) h ∙ sym (eq-eqb (i * 64 + x) n (omega arith))
+    same x l (inr h) = ne_eqb x (n % 64) h ∙ sym (ne_eqb (i * 64 + x) n (λ k. h (omega arith)))
+
+pub single_elsewhere : (n i : ℕ) → i ≢ n / 64 → 0 ≡ word_of (λ m. m == n) i
+single_elsewhere n i e =
+    sets_same 64 0 (word_of (λ m. m == n) i) (omega arith) (gathered-lt (λ j. (i * 64 + j) == n) 64)
+    (λ x l. rw (bit-none x) (sym (ne_eqb (i * 64 + x) n (λ k. e (omega arith)))) ∙ sym (member-gathered (λ j. (i * 64 + j) == n) 64 x l))
 
 -- Words that are made anew one after another: those below i have the numbers that pass a test, those from i on are
 -- as they were.
@@ -161,7 +179,7 @@ pub record Remade (f : ℕ → Bool) (w i : ℕ) (old words : List ℕ) : Type 0
 
 module _ (f : ℕ → Bool) (w : ℕ) (old words : List ℕ) where
   -- One word more.
-  pub remade_more : (i r : ℕ) → Remade f w i old words → i < w → r < 2 ^ 64 → ((x : ℕ) → x < 64 → member r x ≡ f (i * 64 + x))
+  remade_more : (i r : ℕ) → Remade f w i old words → i < w → r < 2 ^ 64 → ((x : ℕ) → x < 64 → member r x ≡ f (i * 64 + x))
       → Remade f w (i + 1) old (set words i r)
   remade_more i r before h l made =
       let m = before.many in
@@ -187,41 +205,51 @@ module _ (f : ℕ → Bool) (w : ℕ) (old words : List ℕ) where
 has_at : (words : List ℕ) (i x : ℕ) → x < 64 → in_words words (i * 64 + x) ≡ member (get_or words i 0) x
 has_at words i x h = rw (div-mul-add i 64 x h, mod-mul-add i 64 x h)
 
--- The words that the program makes of a word: what a set lacks, and a set with a span.
-and_swap : (x y : Bool) → (x && y) ≡ (y && x)
-and_swap true true = refl
-and_swap true false = refl
-and_swap false true = refl
-and_swap false false = refl
+and_comm : (x y : Bool) → (x && y) ≡ (y && x)
+and_comm true true = refl
+and_comm true false = refl
+and_comm false true = refl
+and_comm false false = refl
 
-span_swap : (a e f l : Bool) → ((a || (e && not f)) && l) ≡ (l && ((not f && e) || a))
-span_swap a e f l = rw (and_swap e (not f), or_comm a (not f && e)) (and_swap ((not f && e) || a) l)
+-- What a span is: what lies below its end and not below its first number.
+pub span_is : (first end i : ℕ)
+    → bit_and (word_of (λ m. nat_lt m end) i) (2 ^ 64 - 1 - word_of (λ m. nat_lt m first) i) ≡ word_of (λ m. nat_le first m && nat_lt m end) i
+span_is first end i =
+    sets_same 64 _ _ (and_lt 64 _ _ (gathered-lt (λ j. nat_lt (i * 64 + j) end) 64) (omega arith))
+    (gathered-lt (λ j. nat_le first (i * 64 + j) && nat_lt (i * 64 + j) end) 64)
+    (λ x l.
+    member-and (word_of (λ m. nat_lt m end) i) (2 ^ 64 - 1 - word_of (λ m. nat_lt m first) i) x
+    ∙ rw (member-not 64 (word_of (λ m. nat_lt m first) i) x (gathered-lt (λ j. nat_lt (i * 64 + j) first) 64) l,
+    member-gathered (λ j. nat_lt (i * 64 + j) first) 64 x l, member-gathered (λ j. nat_lt (i * 64 + j) end) 64 x l,
+    from_first (i * 64 + x))
+    (and_comm (nat_lt (i * 64 + x) end) (nat_le first (i * 64 + x)))
+    ∙ sym (member-gathered (λ j. nat_le first (i * 64 + j) && nat_lt (i * 64 + j) end) 64 x l))
+  where
+    from_first : (n : ℕ) → not (nat_lt n first) ≡ nat_le first n
+    from_first n = grind (arith, nat_tests)
 
-from_first : (n first : ℕ) → not (nat_lt n first) ≡ nat_le first n
-from_first n first = grind (arith, nat_tests)
-
+-- Word i, with more numbers or turned to what it lacks, and cut to a limit.
 module _ (w limit : ℕ) (old words : List ℕ) (i : ℕ) where
-  pub others_more : Remade (λ n. nat_lt n limit && not (in_words old n)) w i old words → i < w
-      → Remade (λ n. nat_lt n limit && not (in_words old n)) w (i + 1) old (set words i (bit_and (2 ^ 64 - 1 - get_or words i 0) (word_below limit i)))
-  others_more before h =
+  pub more_joined : (g : ℕ → Bool) → Remade (λ n. nat_lt n limit && (g n || in_words old n)) w i old words → i < w
+      → Remade (λ n. nat_lt n limit && (g n || in_words old n)) w (i + 1) old
+      (set words i (bit_and (bit_or (get_or words i 0) (word_of g i)) (word_of (λ m. nat_lt m limit) i)))
+  more_joined g before h =
+      remade_more _ w old words i _ before h
+      (and_lt 64 _ _ (or_lt 64 _ _ (before.small i) (gathered-lt (λ j. g (i * 64 + j)) 64)) (gathered-lt (λ j. nat_lt (i * 64 + j) limit) 64))
+      (λ x l.
+      member-and (bit_or (get_or words i 0) (word_of g i)) (word_of (λ m. nat_lt m limit) i) x
+      ∙ rw (member-or (get_or words i 0) (word_of g i) x, member-gathered (λ j. g (i * 64 + j)) 64 x l,
+      member-gathered (λ j. nat_lt (i * 64 + j) limit) 64 x l, before.left i (omega arith), has_at old i x l)
+      (rw (or_comm (member (get_or old i 0) x) (g (i * 64 + x)))
+      (and_comm (g (i * 64 + x) || member (get_or old i 0) x) (nat_lt (i * 64 + x) limit))))
+
+  pub others_joined : Remade (λ n. nat_lt n limit && not (in_words old n)) w i old words → i < w
+      → Remade (λ n. nat_lt n limit && not (in_words old n)) w (i + 1) old
+      (set words i (bit_and (2 ^ 64 - 1 - get_or words i 0) (word_of (λ m. nat_lt m limit) i)))
+  others_joined before h =
       remade_more _ w old words i _ before h (and_lt 64 _ _ (omega arith) (gathered-lt (λ j. nat_lt (i * 64 + j) limit) 64))
       (λ x l.
-      member-and (2 ^ 64 - 1 - get_or words i 0) (word_below limit i) x
-      ∙ rw (member-not 64 (get_or words i 0) x (before.small i) l, member-gathered (λ j. nat_lt (i * 64 + j) limit) 64 x l, before.left i (omega arith), has_at old i x l)
-      (and_swap (not (member (get_or old i 0) x)) (nat_lt (i * 64 + x) limit)))
-
-  pub span_more : (first end : ℕ) → Remade (λ n. nat_lt n limit && (nat_le first n && nat_lt n end || in_words old n)) w i old words → i < w
-      → Remade (λ n. nat_lt n limit && (nat_le first n && nat_lt n end || in_words old n)) w (i + 1) old
-      (set words i (bit_and (bit_or (get_or words i 0) (bit_and (word_below end i) (2 ^ 64 - 1 - word_below first i))) (word_below limit i)))
-  span_more first end before h =
-      remade_more _ w old words i _ before h
-      (and_lt 64 _ _ (or_lt 64 _ _ (before.small i) (and_lt 64 _ _ (gathered-lt (λ j. nat_lt (i * 64 + j) end) 64) (omega arith))) (gathered-lt (λ j. nat_lt (i * 64 + j) limit) 64))
-      (λ x l.
-      member-and (bit_or (get_or words i 0) (bit_and (word_below end i) (2 ^ 64 - 1 - word_below first i))) (word_below limit i) x
-      ∙ rw (member-or (get_or words i 0) (bit_and (word_below end i) (2 ^ 64 - 1 - word_below first i)) x,
-      member-and (word_below end i) (2 ^ 64 - 1 - word_below first i) x,
-      member-not 64 (word_below first i) x (gathered-lt (λ j. nat_lt (i * 64 + j) first) 64) l,
-      member-gathered (λ j. nat_lt (i * 64 + j) first) 64 x l, member-gathered (λ j. nat_lt (i * 64 + j) end) 64 x l,
-      member-gathered (λ j. nat_lt (i * 64 + j) limit) 64 x l, before.left i (omega arith), has_at old i x l)
-      (span_swap (member (get_or old i 0) x) (nat_lt (i * 64 + x) end) (nat_lt (i * 64 + x) first) (nat_lt (i * 64 + x) limit)
-      ∙ rw (from_first (i * 64 + x) first)))
+      member-and (2 ^ 64 - 1 - get_or words i 0) (word_of (λ m. nat_lt m limit) i) x
+      ∙ rw (member-not 64 (get_or words i 0) x (before.small i) l, member-gathered (λ j. nat_lt (i * 64 + j) limit) 64 x l,
+      before.left i (omega arith), has_at old i x l)
+      (and_comm (not (member (get_or old i 0) x)) (nat_lt (i * 64 + x) limit)))

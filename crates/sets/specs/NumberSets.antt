@@ -13,14 +13,13 @@ has s n = in_words s.words n
 abbrev pub no_number : {w : ℕ} → NumberSet w
 no_number {w} = record { words = replicate w 0 }
 
--- Word i of the numbers below a limit.
-abbrev pub word_below : ℕ → ℕ → ℕ
-word_below limit i = gathered (λ j. nat_lt (i * 64 + j) limit) 64
+-- Word i, and so many words from word i on, with the numbers that pass a test.
+abbrev pub word_of : (ℕ → Bool) → ℕ → ℕ
+word_of f i = gathered (λ j. f (i * 64 + j)) 64
 
--- So many words from word i on, with the numbers that pass a test.
 unfoldable pub words_of : (ℕ → Bool) → ℕ → ℕ → List ℕ
 words_of f i zero = []
-words_of f i (suc count) = gathered (λ j. f (i * 64 + j)) 64 ∷ words_of f (suc i) count
+words_of f i (suc count) = word_of f i ∷ words_of f (suc i) count
 
 -- The set of the numbers that pass a test, as far as there are words for them.
 unfoldable pub set_of : {w : ℕ} → (ℕ → Bool) → NumberSet w

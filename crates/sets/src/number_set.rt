@@ -1,5 +1,5 @@
-ghost use Rattle.std.specs.Prelude.{◌≡◌, not, ◌&&◌, ◌||◌, nat_le, nat_lt};
-ghost use Rattle.sets.specs.NumberSets.{has, no_number, set_of, word_below, Gathered};
+ghost use Rattle.std.specs.Prelude.{◌≡◌, not, ◌&&◌, ◌||◌, ◌==◌, nat_le, nat_lt};
+ghost use Rattle.sets.specs.NumberSets.{has, no_number, set_of, word_of, Gathered};
 
 use crate::{contains, insert};
 
@@ -45,6 +45,17 @@ impl<const WORDS: usize> NumberSet<WORDS> {
         NumberSet { words }
     }
 
+    // The numbers below a count that the set has, and a number, if it is one of them.
+    pub fn with(self, count: usize, n: usize) -> Self
+        ensures { result ≡ set_of (λ m. nat_lt m count && (m == n || has self.entry m)) }
+    {
+        let mut words = self.words;
+        for i in 0..WORDS {
+            words[i] = (words[i] | single(n, i)) & below(count, i);
+        }
+        NumberSet { words }
+    }
+
     // The numbers below a count that the set lacks.
     pub fn others(self, count: usize) -> Self
         ensures { result ≡ set_of (λ n. nat_lt n count && not (has self.entry n)) }
@@ -63,9 +74,16 @@ impl<const WORDS: usize> NumberSet<WORDS> {
     }
 }
 
+// Word i of the set of one number.
+fn single(n: usize, i: usize) -> u64
+    ensures { result ≡ word_of (λ m. m == n) i }
+{
+    if i == n / 64 { 1 << (n % 64) } else { 0 }
+}
+
 // Word i of the numbers below a limit.
 fn below(limit: usize, i: usize) -> u64
-    ensures { result ≡ word_below limit i }
+    ensures { result ≡ word_of (λ m. nat_lt m limit) i }
 {
     if i < limit / 64 {
         !0
