@@ -169,26 +169,22 @@ single_elsewhere n i e =
     sets_same 64 0 (word_of (λ m. m == n) i) (omega arith) (gathered-lt (λ j. (i * 64 + j) == n) 64)
     (λ x l. rw (bit-none x) (sym (ne_eqb (i * 64 + x) n (λ k. e (omega arith)))) ∙ sym (member-gathered (λ j. (i * 64 + j) == n) 64 x l))
 
--- Words that are made anew one after another: those below i have the numbers that pass a test, those from i on are
--- as they were.
-pub record Remade (f : ℕ → Bool) (w i : ℕ) (old words : List ℕ) : Type 0 where
+-- Words that are made one after another: those below i have the numbers that pass a test.
+pub record Made (f : ℕ → Bool) (w i : ℕ) (words : List ℕ) : Type 0 where
   pub many : length words ≡ w
   pub small : (q : ℕ) → get_or words q 0 < 2 ^ 64
   pub done : (q x : ℕ) → q < i → x < 64 → member (get_or words q 0) x ≡ f (q * 64 + x)
-  pub left : (q : ℕ) → i ≤ q → get_or words q 0 ≡ get_or old q 0
 
-module _ (f : ℕ → Bool) (w : ℕ) (old words : List ℕ) where
+module _ (f : ℕ → Bool) (w : ℕ) (words : List ℕ) where
   -- One word more.
-  remade_more : (i r : ℕ) → Remade f w i old words → i < w → r < 2 ^ 64 → ((x : ℕ) → x < 64 → member r x ≡ f (i * 64 + x))
-      → Remade f w (i + 1) old (set words i r)
-  remade_more i r before h l made =
+  made_more : (i r : ℕ) → Made f w i words → i < w → r < 2 ^ 64 → ((x : ℕ) → x < 64 → member r x ≡ f (i * 64 + x)) → Made f w (i + 1) (set words i r)
+  made_more i r before h l made =
       let m = before.many in
       let k : i < length words = omega arith in
       record {
         many = length-set words i r ∙ before.many;
         small = small-set words i r k l before.small;
         done = λ q x b n. done q x b n (cases_eq q i);
-        left = λ q b. get_or-set_other words i q r 0 (λ e. omega arith) ∙ before.left q (omega arith);
       }
     where
       done : (q x : ℕ) → q < i + 1 → x < 64 → (q ≡ i) ⊎ (q ≢ i) → member (get_or (set words i r) q 0) x ≡ f (q * 64 + x)
@@ -196,8 +192,8 @@ module _ (f : ℕ → Bool) (w : ℕ) (old words : List ℕ) where
       done q x b n (inr e) = rw (get_or-set_other words i q r 0 e) (before.done q x (omega arith) n)
 
   -- All of them.
-  pub remade_all : (i : ℕ) → w ≤ i → Remade f w i old words → ◌≡◌ {A = NumberSet w} (record { words = words }) (set_of f)
-  remade_all i h all =
+  pub made_all : (i : ℕ) → w ≤ i → Made f w i words → ◌≡◌ {A = NumberSet w} (record { words = words }) (set_of f)
+  made_all i h all =
       is_set_of w (record { words = words }) f (record { many = all.many; small = all.small })
       (λ n l. all.done (n / 64) (n % 64) (omega arith) (omega arith) ∙ ap f (omega arith))
 
@@ -228,28 +224,27 @@ span_is first end i =
     from_first : (n : ℕ) → not (nat_lt n first) ≡ nat_le first n
     from_first n = grind (arith, nat_tests)
 
--- Word i, with more numbers or turned to what it lacks, and cut to a limit.
-module _ (w limit : ℕ) (old words : List ℕ) (i : ℕ) where
-  pub more_joined : (g : ℕ → Bool) → Remade (λ n. nat_lt n limit && (g n || in_words old n)) w i old words → i < w
-      → Remade (λ n. nat_lt n limit && (g n || in_words old n)) w (i + 1) old
-      (set words i (bit_and (bit_or (get_or words i 0) (word_of g i)) (word_of (λ m. nat_lt m limit) i)))
-  more_joined g before h =
-      remade_more _ w old words i _ before h
-      (and_lt 64 _ _ (or_lt 64 _ _ (before.small i) (gathered-lt (λ j. g (i * 64 + j)) 64)) (gathered-lt (λ j. nat_lt (i * 64 + j) limit) 64))
+-- Word i of a set, with more numbers or turned to what it lacks, and cut to a limit.
+module _ (w limit : ℕ) (old words : List ℕ) (i : ℕ) (small : get_or old i 0 < 2 ^ 64) where
+  pub more_made : (g : ℕ → Bool) → Made (λ n. nat_lt n limit && (g n || in_words old n)) w i words → i < w
+      → Made (λ n. nat_lt n limit && (g n || in_words old n)) w (i + 1)
+      (set words i (bit_and (bit_or (get_or old i 0) (word_of g i)) (word_of (λ m. nat_lt m limit) i)))
+  more_made g before h =
+      made_more _ w words i _ before h
+      (and_lt 64 _ _ (or_lt 64 _ _ small (gathered-lt (λ j. g (i * 64 + j)) 64)) (gathered-lt (λ j. nat_lt (i * 64 + j) limit) 64))
       (λ x l.
-      member-and (bit_or (get_or words i 0) (word_of g i)) (word_of (λ m. nat_lt m limit) i) x
-      ∙ rw (member-or (get_or words i 0) (word_of g i) x, member-gathered (λ j. g (i * 64 + j)) 64 x l,
-      member-gathered (λ j. nat_lt (i * 64 + j) limit) 64 x l, before.left i (omega arith), has_at old i x l)
+      member-and (bit_or (get_or old i 0) (word_of g i)) (word_of (λ m. nat_lt m limit) i) x
+      ∙ rw (member-or (get_or old i 0) (word_of g i) x, member-gathered (λ j. g (i * 64 + j)) 64 x l,
+      member-gathered (λ j. nat_lt (i * 64 + j) limit) 64 x l, has_at old i x l)
       (rw (or_comm (member (get_or old i 0) x) (g (i * 64 + x)))
       (and_comm (g (i * 64 + x) || member (get_or old i 0) x) (nat_lt (i * 64 + x) limit))))
 
-  pub others_joined : Remade (λ n. nat_lt n limit && not (in_words old n)) w i old words → i < w
-      → Remade (λ n. nat_lt n limit && not (in_words old n)) w (i + 1) old
-      (set words i (bit_and (2 ^ 64 - 1 - get_or words i 0) (word_of (λ m. nat_lt m limit) i)))
-  others_joined before h =
-      remade_more _ w old words i _ before h (and_lt 64 _ _ (omega arith) (gathered-lt (λ j. nat_lt (i * 64 + j) limit) 64))
+  pub others_made : Made (λ n. nat_lt n limit && not (in_words old n)) w i words → i < w
+      → Made (λ n. nat_lt n limit && not (in_words old n)) w (i + 1)
+      (set words i (bit_and (2 ^ 64 - 1 - get_or old i 0) (word_of (λ m. nat_lt m limit) i)))
+  others_made before h =
+      made_more _ w words i _ before h (and_lt 64 _ _ (omega arith) (gathered-lt (λ j. nat_lt (i * 64 + j) limit) 64))
       (λ x l.
-      member-and (2 ^ 64 - 1 - get_or words i 0) (word_of (λ m. nat_lt m limit) i) x
-      ∙ rw (member-not 64 (get_or words i 0) x (before.small i) l, member-gathered (λ j. nat_lt (i * 64 + j) limit) 64 x l,
-      before.left i (omega arith), has_at old i x l)
+      member-and (2 ^ 64 - 1 - get_or old i 0) (word_of (λ m. nat_lt m limit) i) x
+      ∙ rw (member-not 64 (get_or old i 0) x small l, member-gathered (λ j. nat_lt (i * 64 + j) limit) 64 x l, has_at old i x l)
       (and_comm (not (member (get_or old i 0) x)) (nat_lt (i * 64 + x) limit)))

@@ -37,10 +37,10 @@ impl<const WORDS: usize> NumberSet<WORDS> {
     pub fn with_span(self, count: usize, first: usize, end: usize) -> Self
         ensures { result ≡ set_of (λ n. nat_lt n count && (nat_le first n && nat_lt n end || has self.entry n)) }
     {
-        let mut words = self.words;
+        let mut words = [0; WORDS];
         for i in 0..WORDS {
             let span = below(end, i) & !below(first, i);
-            words[i] = (words[i] | span) & below(count, i);
+            words[i] = (self.words[i] | span) & below(count, i);
         }
         NumberSet { words }
     }
@@ -49,9 +49,9 @@ impl<const WORDS: usize> NumberSet<WORDS> {
     pub fn with(self, count: usize, n: usize) -> Self
         ensures { result ≡ set_of (λ m. nat_lt m count && (m == n || has self.entry m)) }
     {
-        let mut words = self.words;
+        let mut words = [0; WORDS];
         for i in 0..WORDS {
-            words[i] = (words[i] | single(n, i)) & below(count, i);
+            words[i] = (self.words[i] | single(n, i)) & below(count, i);
         }
         NumberSet { words }
     }
@@ -60,9 +60,9 @@ impl<const WORDS: usize> NumberSet<WORDS> {
     pub fn others(self, count: usize) -> Self
         ensures { result ≡ set_of (λ n. nat_lt n count && not (has self.entry n)) }
     {
-        let mut words = self.words;
+        let mut words = [0; WORDS];
         for i in 0..WORDS {
-            words[i] = !words[i] & below(count, i);
+            words[i] = !self.words[i] & below(count, i);
         }
         NumberSet { words }
     }
