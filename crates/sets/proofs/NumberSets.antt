@@ -215,9 +215,12 @@ span_is first end i =
     (gathered-lt (λ j. nat_le first (i * 64 + j) && nat_lt (i * 64 + j) end) 64)
     (λ x l.
     member-and (word_of (λ m. nat_lt m end) i) (2 ^ 64 - 1 - word_of (λ m. nat_lt m first) i) x
-    ∙ rw (member-not 64 (word_of (λ m. nat_lt m first) i) x (gathered-lt (λ j. nat_lt (i * 64 + j) first) 64) l,
-    member-gathered (λ j. nat_lt (i * 64 + j) first) 64 x l, member-gathered (λ j. nat_lt (i * 64 + j) end) 64 x l,
-    from_first (i * 64 + x))
+    ∙ rw (
+      member-not 64 (word_of (λ m. nat_lt m first) i) x (gathered-lt (λ j. nat_lt (i * 64 + j) first) 64) l,
+      member-gathered (λ j. nat_lt (i * 64 + j) first) 64 x l,
+      member-gathered (λ j. nat_lt (i * 64 + j) end) 64 x l,
+      from_first (i * 64 + x),
+    )
     (and_comm (nat_lt (i * 64 + x) end) (nat_le first (i * 64 + x)))
     ∙ sym (member-gathered (λ j. nat_le first (i * 64 + j) && nat_lt (i * 64 + j) end) 64 x l))
   where
@@ -234,8 +237,12 @@ module _ (w limit : ℕ) (old words : List ℕ) (i : ℕ) (small : get_or old i 
       (and_lt 64 _ _ (or_lt 64 _ _ small (gathered-lt (λ j. g (i * 64 + j)) 64)) (gathered-lt (λ j. nat_lt (i * 64 + j) limit) 64))
       (λ x l.
       member-and (bit_or (get_or old i 0) (word_of g i)) (word_of (λ m. nat_lt m limit) i) x
-      ∙ rw (member-or (get_or old i 0) (word_of g i) x, member-gathered (λ j. g (i * 64 + j)) 64 x l,
-      member-gathered (λ j. nat_lt (i * 64 + j) limit) 64 x l, has_at old i x l)
+      ∙ rw (
+        member-or (get_or old i 0) (word_of g i) x,
+        member-gathered (λ j. g (i * 64 + j)) 64 x l,
+        member-gathered (λ j. nat_lt (i * 64 + j) limit) 64 x l,
+        has_at old i x l,
+      )
       (rw (or_comm (member (get_or old i 0) x) (g (i * 64 + x)))
       (and_comm (g (i * 64 + x) || member (get_or old i 0) x) (nat_lt (i * 64 + x) limit))))
 
