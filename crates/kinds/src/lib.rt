@@ -5,7 +5,7 @@
 #![tactic(auto)]
 
 ghost use Rattle.std.specs.Prelude.{◌≡◌, ℕ, ◌<◌, ◌≤◌, Bool, true, false, ◌↔◌, List, length, if◌then◌else◌, Some, None, Result as Either, nat_lt, slice_index};
-ghost use Rattle.kinds.specs.Refusals.{number_of};
+ghost use Rattle.kinds.specs.Refusals.{number_of, sentence_of, refused_text};
 ghost use Rattle.kinds.specs.Atoms.{Within, Operator, is_operator, no_atom_at};
 ghost use Rattle.kinds.specs.declared.Atom.{Atom as AtomOf};
 ghost use Rattle.kinds.specs.declared.Refused.{Refused as RefusedAt};
@@ -67,6 +67,8 @@ impl From<Refusal> for u8 {
 
 // What is wrong, in a sentence.
 impl fmt::Display for Refusal {
+    ghost output = { λ refusal. Some (sentence_of refusal) };
+
     fn fmt<W: fmt::Write>(&self, f: &mut fmt::Formatter<W>) -> fmt::Result {
         f.write_str(match self {
             Refusal::TextLength => "a pattern has 1 to 1,024 bytes",
@@ -103,6 +105,8 @@ pub struct Refused {
 }
 
 impl fmt::Display for Refused {
+    ghost output = { λ refused. Some (refused_text refused) };
+
     fn fmt<W: fmt::Write>(&self, f: &mut fmt::Formatter<W>) -> fmt::Result {
         let number = u8::from(self.refusal);
         write!(f, "refused {number} at {}: {}", self.place, self.refusal)

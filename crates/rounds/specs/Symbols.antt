@@ -1,4 +1,4 @@
-use Rattle.std.specs.Prelude.{◌≡◌, ℕ, ◌+◌, ◌*◌, ◌/◌, ◌%◌, ◌<◌, ◌≤◌, Bool, true, cond, ◌&&◌, Some, None, Option, Result, MatchResult, ◌==◌}
+use Rattle.std.specs.Prelude.{◌≡◌, ℕ, ◌+◌, ◌*◌, ◌/◌, ◌%◌, ◌<◌, ◌≤◌, Bool, true, cond, ◌&&◌, List, ◌++◌, codes, decimal, Some, None, Option, Result, MatchResult, ◌==◌}
 use Rattle.rounds.specs.declared.symbol.Side.{Side}
 use Rattle.rounds.specs.declared.symbol.Side.TheVariants.{White, Black, Unplayed}
 use Rattle.rounds.specs.declared.symbol.Outcome.{Outcome}
@@ -51,3 +51,22 @@ is_on (Some side) n = n / 3 == side_number side
 -- where the unit names one.
 abbrev pub in_unit : RoundUnit → ℕ → Bool
 in_unit unit n = n % 3 == outcome_number unit.outcome && is_on unit.side n
+
+-- The letter that an outcome prints, and the one that a side prints.
+abbrev pub outcome_letter : Outcome → List ℕ
+outcome_letter Win = codes "W"
+outcome_letter Draw = codes "D"
+outcome_letter Loss = codes "L"
+
+abbrev pub side_letter : Side → List ℕ
+side_letter White = codes "w"
+side_letter Black = codes "b"
+side_letter Unplayed = codes "u"
+
+-- What a round prints: the letter of its outcome, and behind it the letter of its side.
+abbrev pub round_text : Round → List ℕ
+round_text round = outcome_letter round.outcome ++ side_letter round.side
+
+-- What is printed of a number that no round has.
+abbrev pub unknown_round_text : UnknownRound → List ℕ
+unknown_round_text unknown = codes "no round has the number " ++ decimal unknown.0

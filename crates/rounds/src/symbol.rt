@@ -1,5 +1,5 @@
-ghost use Rattle.std.specs.Prelude.{◌≡◌, ◌<◌};
-ghost use Rattle.rounds.specs.Symbols.{side_number, outcome_number, round_number, side_of, outcome_of, IsRoundOf};
+ghost use Rattle.std.specs.Prelude.{◌≡◌, ◌<◌, Some};
+ghost use Rattle.rounds.specs.Symbols.{side_number, outcome_number, round_number, side_of, outcome_of, IsRoundOf, outcome_letter, side_letter, round_text, unknown_round_text};
 
 use std::error::Error;
 use std::fmt;
@@ -41,6 +41,8 @@ pub struct RoundUnit {
 pub struct UnknownRound(pub usize);
 
 impl fmt::Display for UnknownRound {
+    ghost output = { λ unknown. Some (unknown_round_text unknown) };
+
     fn fmt<W: fmt::Write>(&self, f: &mut fmt::Formatter<W>) -> fmt::Result {
         write!(f, "no round has the number {}", self.0)
     }
@@ -113,6 +115,8 @@ fn outcome_of(number: usize) -> Outcome
 
 // The letter of an outcome in the language.
 impl fmt::Display for Outcome {
+    ghost output = { λ outcome. Some (outcome_letter outcome) };
+
     fn fmt<W: fmt::Write>(&self, f: &mut fmt::Formatter<W>) -> fmt::Result {
         f.write_str(match self {
             Outcome::Win => "W",
@@ -124,6 +128,8 @@ impl fmt::Display for Outcome {
 
 // The letter of a side in the language.
 impl fmt::Display for Side {
+    ghost output = { λ side. Some (side_letter side) };
+
     fn fmt<W: fmt::Write>(&self, f: &mut fmt::Formatter<W>) -> fmt::Result {
         f.write_str(match self {
             Side::White => "w",
@@ -135,6 +141,8 @@ impl fmt::Display for Side {
 
 // A round as the unit that is narrowed to it.
 impl fmt::Display for Round {
+    ghost output = { λ round. Some (round_text round) };
+
     fn fmt<W: fmt::Write>(&self, f: &mut fmt::Formatter<W>) -> fmt::Result {
         write!(f, "{}{}", self.outcome, self.side)
     }

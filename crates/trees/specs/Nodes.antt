@@ -1,4 +1,4 @@
-use Rattle.std.specs.Prelude.{◌≡◌, ℕ, ◌≤◌, cond, Some, None, Option, Result, MatchResult, ◌==◌}
+use Rattle.std.specs.Prelude.{◌≡◌, ℕ, ◌≤◌, cond, List, ◌++◌, codes, decimal, Some, None, Option, Result, MatchResult, ◌==◌}
 use Rattle.trees.specs.declared.Joiner.TheVariants.{Sequence, Choice}
 use Rattle.trees.specs.declared.Postfix.TheVariants.{Star, Plus, Optional}
 use Rattle.trees.specs.declared.NodeKind.{NodeKind}
@@ -32,6 +32,10 @@ abbrev pub IsKindOf : ℕ → Result NodeKind UnknownKind → Type 0
 IsKindOf n r =
     MatchResult r (λ kind. (kind_of n ≡ Some kind) × (kind_number kind ≡ n))
     (λ e. (kind_of n ≡ None) × (7 ≤ n) × (e.0 ≡ n))
+
+-- What is printed of a number that stands for no kind.
+abbrev pub unknown_kind_text : UnknownKind → List ℕ
+unknown_kind_text unknown = codes "no kind of node has the number " ++ decimal unknown.0
 
 abbrev pub node_of : NodeKind → ℕ → ℕ → Node
 node_of kind a b = record { kind = kind_number kind; a = a; b = b }

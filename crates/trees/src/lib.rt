@@ -2,8 +2,8 @@
 // check and read. What a node list says is `listed` in specs/Listing.
 #![tactic(auto)]
 
-ghost use Rattle.std.specs.Prelude.{◌≡◌};
-ghost use Rattle.trees.specs.Nodes.{kind_number, IsKindOf, node_of, cleared_node};
+ghost use Rattle.std.specs.Prelude.{◌≡◌, Some};
+ghost use Rattle.trees.specs.Nodes.{kind_number, IsKindOf, unknown_kind_text, node_of, cleared_node};
 
 use std::error::Error;
 use std::fmt;
@@ -54,6 +54,8 @@ impl From<NodeKind> for u8 {
 pub struct UnknownKind(pub u8);
 
 impl fmt::Display for UnknownKind {
+    ghost output = { λ unknown. Some (unknown_kind_text unknown) };
+
     fn fmt<W: fmt::Write>(&self, f: &mut fmt::Formatter<W>) -> fmt::Result {
         write!(f, "no kind of node has the number {}", self.0)
     }
