@@ -1,3 +1,6 @@
+ghost use Rattle.std.specs.Prelude.{◌≡◌, length, take, string_bytes, OnOk};
+ghost use Rattle.std.specs.Fmt.{AppendsText};
+
 use crate::shown::{Shown, Symbols};
 use kinds::{Refusal, Refused};
 use std::alloc::AllocError;
@@ -24,14 +27,13 @@ impl From<AllocError> for Unexplained {
 
 // Tells all that can be told of a text that is one atom after another: a line for each atom and, where
 // the text is refused, its fault behind the lines of the atoms before. Answers the fault.
-pub(crate) fn told<K: Shown>(
-    text: &str,
-    lines: &mut String,
-) -> Result<Option<Refused>, AllocError> {
+pub(crate) fn told<K: Shown>(text: &str, lines: &mut String) -> Result<Option<Refused>, AllocError>
+    ensures kept { take (length (string_bytes lines.old)) (string_bytes lines.new) ≡ string_bytes lines.old }
+{
     match explained::<K>(text, lines) {
         Ok(()) => Ok(None),
         Err(Unexplained::Refused(refused)) => {
-            write!(lines, "{}", Pointed { text, refused })?;
+            append(Pointed { text, refused }, lines)?;
             Ok(Some(refused))
         }
         Err(Unexplained::NoMemory(error)) => Err(error),
@@ -39,7 +41,9 @@ pub(crate) fn told<K: Shown>(
 }
 
 // Writes a line for each atom. The lines of the atoms before a fault are left.
-fn explained<K: Shown>(text: &str, lines: &mut String) -> Result<(), Unexplained> {
+fn explained<K: Shown>(text: &str, lines: &mut String) -> Result<(), Unexplained>
+    ensures kept { take (length (string_bytes lines.old)) (string_bytes lines.new) ≡ string_bytes lines.old }
+{
     let bytes = text.as_bytes();
     if bytes.is_empty() || bytes.len() > 1024 {
         return Err(Refusal::TextLength.at(0).into());
@@ -51,10 +55,24 @@ fn explained<K: Shown>(text: &str, lines: &mut String) -> Result<(), Unexplained
         let length = atom.length;
         let unit = if length == 1 { "byte" } else { "bytes" };
         let symbols = Symbols::<K>(atom.class);
-        writeln!(lines, "atom at {place}, {length} {unit}: admits{symbols}")?;
+        append(
+            format_args!("atom at {place}, {length} {unit}: admits{symbols}\n"),
+            lines,
+        )?;
         place += length;
     }
     Ok(())
+}
+
+// Writes a value behind what stands in the lines. The value becomes a text of its own first: where no
+// contract states what it prints, `write!` does not promise that the lines are kept.
+fn append<D: fmt::Display + Drop>(value: D, lines: &mut String) -> Result<(), AllocError>
+    ensures behind { OnOk result (AppendsText (string_bytes lines.old) (string_bytes lines.new) (D.output value)) }
+    ensures kept { take (length (string_bytes lines.old)) (string_bytes lines.new) ≡ string_bytes lines.old }
+{
+    let heap = *lines.allocator();
+    let added = format!(in heap; "{value}")?;
+    lines.push_str(added.as_str())
 }
 
 // A text with its fault: the text on one line, a caret under the place, and what is wrong there.
