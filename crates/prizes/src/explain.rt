@@ -1,3 +1,6 @@
+ghost use Rattle.std.specs.Prelude.{◌≡◌, length, take, string_bytes, OnOk};
+ghost use Rattle.std.specs.Fmt.{AppendsText};
+
 use crate::shown::{Shown, Symbols};
 use kinds::{Refusal, Refused};
 use std::alloc::AllocError;
@@ -5,7 +8,7 @@ use std::fmt;
 
 // Why a text is not explained to its end.
 #[derive(Drop)]
-pub(crate) enum Unexplained {
+enum Unexplained {
     Refused(Refused),
     NoMemory(AllocError),
 }
@@ -22,9 +25,25 @@ impl From<AllocError> for Unexplained {
     }
 }
 
-// Explains a text that is one atom after another, by a line for each atom. The lines of the atoms
-// before a fault are left.
-pub(crate) fn explained<K: Shown>(text: &str, lines: &mut String) -> Result<(), Unexplained> {
+// Tells all that can be told of a text that is one atom after another: a line for each atom and, where
+// the text is refused, its fault behind the lines of the atoms before. Answers the fault.
+pub(crate) fn told<K: Shown>(text: &str, lines: &mut String) -> Result<Option<Refused>, AllocError>
+    ensures kept { take (length (string_bytes lines.old)) (string_bytes lines.new) ≡ string_bytes lines.old }
+{
+    match explained::<K>(text, lines) {
+        Ok(()) => Ok(None),
+        Err(Unexplained::Refused(refused)) => {
+            append(Pointed { text, refused }, lines)?;
+            Ok(Some(refused))
+        }
+        Err(Unexplained::NoMemory(error)) => Err(error),
+    }
+}
+
+// Writes a line for each atom. The lines of the atoms before a fault are left.
+fn explained<K: Shown>(text: &str, lines: &mut String) -> Result<(), Unexplained>
+    ensures kept { take (length (string_bytes lines.old)) (string_bytes lines.new) ≡ string_bytes lines.old }
+{
     let bytes = text.as_bytes();
     if bytes.is_empty() || bytes.len() > 1024 {
         return Err(Refusal::TextLength.at(0).into());
@@ -36,17 +55,31 @@ pub(crate) fn explained<K: Shown>(text: &str, lines: &mut String) -> Result<(), 
         let length = atom.length;
         let unit = if length == 1 { "byte" } else { "bytes" };
         let symbols = Symbols::<K>(atom.class);
-        writeln!(lines, "atom at {place}, {length} {unit}: admits{symbols}")?;
+        append(
+            format_args!("atom at {place}, {length} {unit}: admits{symbols}\n"),
+            lines,
+        )?;
         place += length;
     }
     Ok(())
 }
 
+// Writes a value behind what stands in the lines. The value becomes a text of its own first: where no
+// contract states what it prints, `write!` does not promise that the lines are kept.
+fn append<D: fmt::Display + Drop>(value: D, lines: &mut String) -> Result<(), AllocError>
+    ensures behind { OnOk result (AppendsText (string_bytes lines.old) (string_bytes lines.new) (D.output value)) }
+    ensures kept { take (length (string_bytes lines.old)) (string_bytes lines.new) ≡ string_bytes lines.old }
+{
+    let heap = *lines.allocator();
+    let added = format!(in heap; "{value}")?;
+    lines.push_str(added.as_str())
+}
+
 // A text with its fault: the text on one line, a caret under the place, and what is wrong there.
 #[derive(Clone, Copy)]
-pub(crate) struct Pointed<'a> {
-    pub text: &'a str,
-    pub refused: Refused,
+struct Pointed<'a> {
+    text: &'a str,
+    refused: Refused,
 }
 
 impl fmt::Display for Pointed<'_> {
@@ -84,17 +117,6 @@ mod tests {
         Expected { text, told }
     }
 
-    // The lines of a text, and behind them its fault if it is refused.
-    fn told<K: Shown>(heap: Global, text: &str) -> Result<String, AllocError> {
-        let mut lines = String::new(heap);
-        match explained::<K>(text, &mut lines) {
-            Ok(()) => {}
-            Err(Unexplained::Refused(refused)) => write!(lines, "{}", Pointed { text, refused })?,
-            Err(Unexplained::NoMemory(error)) => return Err(error),
-        }
-        Ok(lines)
-    }
-
     // The first line of a table that is told otherwise, counted from 0.
     fn first_wrong<K: Shown>(
         heap: Global,
@@ -102,7 +124,9 @@ mod tests {
     ) -> Result<Option<usize>, AllocError> {
         // a for: what is told can fail for want of memory
         for (i, line) in table.iter().enumerate() {
-            if told::<K>(heap, line.text)?.as_str() != line.told {
+            let mut lines = String::new(heap);
+            told::<K>(line.text, &mut lines)?;
+            if lines.as_str() != line.told {
                 return Ok(Some(i));
             }
         }

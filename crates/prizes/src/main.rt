@@ -6,7 +6,7 @@ mod explain;
 mod shown;
 
 use crate::command::{Command, KindName, Unclear, read_command};
-use crate::explain::{Pointed, Unexplained, explained};
+use crate::explain::told;
 use anyhow::anyhow;
 use byte_kind::Bytes;
 use rounds::Rounds;
@@ -42,16 +42,13 @@ fn main(rt: HostRuntime) -> anyhow::Result<()> {
 fn tell(rt: &impl Print, heap: Global, kind: KindName, text: &str) -> anyhow::Result<()> {
     let mut lines = String::new(heap);
     // a match: each kind is a type of its own, and there is one for each name
-    let told = match kind {
-        KindName::Bytes => explained::<Bytes>(text, &mut lines),
-        KindName::Rounds => explained::<Rounds>(text, &mut lines),
+    let fault = match kind {
+        KindName::Bytes => told::<Bytes>(text, &mut lines)?,
+        KindName::Rounds => told::<Rounds>(text, &mut lines)?,
     };
-    match told {
-        Ok(()) => Ok(rt.print(lines.as_str())?),
-        Err(Unexplained::Refused(refused)) => {
-            print!(rt; "{}{}", lines.as_str(), Pointed { text, refused })?;
-            Err(anyhow!("the text is refused"))
-        }
-        Err(Unexplained::NoMemory(error)) => Err(error.into()),
+    rt.print(lines.as_str())?;
+    match fault {
+        None => Ok(()),
+        Some(_) => Err(anyhow!("the text is refused")),
     }
 }
