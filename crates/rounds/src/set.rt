@@ -1,6 +1,6 @@
 ghost use Rattle.std.specs.Prelude.{◌≡◌};
 ghost use Rattle.rounds.specs.Class.{others};
-ghost use Rattle.rounds.specs.Reading.{none_so_far, units_so_far, turn_of};
+ghost use Rattle.rounds.specs.Reading.{none_so_far, begin_unit, units_so_far, turn_of};
 
 use crate::class::RoundClass;
 use crate::letter::{outcome_of_letter, side_of_letter};
@@ -40,6 +40,21 @@ fn units_so_far(units: Units) -> RoundClass
     }
 }
 
+// The set goes on behind a letter, which begins a unit; another byte begins none.
+fn begin_unit(
+    class: RoundClass,
+    place: usize,
+    byte: u8,
+) -> Result<ControlFlow<RoundClass, Units>, Refused>
+    ensures { result ≡ begin_unit class place byte }
+{
+    let outcome = outcome_of_letter(byte).ok_or(Refusal::NoAtom.at(place))?;
+    Ok(ControlFlow::Continue(Units {
+        state: SetState::Letter(outcome),
+        class,
+    }))
+}
+
 impl SetMachine for Units {
     type Class = RoundClass;
 
@@ -62,22 +77,24 @@ impl SetMachine for Units {
         place: usize,
         byte: u8,
     ) -> Result<ControlFlow<RoundClass, Units>, Refused> {
-        let (state, class) = match (self.state, byte, side_of_letter(byte)) {
-            (SetState::Start, b']', _) => return Err(Refusal::EmptySet.at(bracket)),
-            (_, b']', _) => return Ok(ControlFlow::Break(units_so_far(self))),
-            (SetState::Letter(outcome), _, Some(side)) => {
-                let narrowed = RoundUnit {
-                    outcome,
-                    side: Some(side),
-                };
-                (SetState::Between, self.class.with_unit(narrowed))
-            }
-            (_, _, _) => {
-                let outcome = outcome_of_letter(byte).ok_or(Refusal::NoAtom.at(place))?;
-                (SetState::Letter(outcome), units_so_far(self))
-            }
-        };
-        Ok(ControlFlow::Continue(Units { state, class }))
+        match (self.state, byte) {
+            (SetState::Start, b']') => Err(Refusal::EmptySet.at(bracket)),
+            (_, b']') => Ok(ControlFlow::Break(units_so_far(self))),
+            (SetState::Letter(outcome), _) => match side_of_letter(byte) {
+                Some(side) => {
+                    let narrowed = RoundUnit {
+                        outcome,
+                        side: Some(side),
+                    };
+                    Ok(ControlFlow::Continue(Units {
+                        state: SetState::Between,
+                        class: self.class.with_unit(narrowed),
+                    }))
+                }
+                None => begin_unit(units_so_far(self), place, byte),
+            },
+            (SetState::Start | SetState::Between, _) => begin_unit(self.class, place, byte),
+        }
     }
 
     fn others(units: RoundClass) -> RoundClass {
