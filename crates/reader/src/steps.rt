@@ -1,6 +1,6 @@
 ghost use Rattle.std.specs.Prelude.{◌≡◌, ◌<◌, OnOk};
 ghost use Rattle.reader.specs.Desk.{desk_of, SameMemory};
-ghost use Rattle.reader.specs.Writer.{opens, closes, bars, repeats, takes, ends_group, wrote, EndsOn, pattern_nodes, ended};
+ghost use Rattle.reader.specs.Writer.{opens, closes, bars, repeats, takes, ends_group, wrote, EndsOn, outer_groups, pattern_nodes, ended};
 
 use crate::limits::MAX_GROUPS;
 use crate::nodes::keep;
@@ -90,6 +90,7 @@ impl<C: Copy> Writer<'_, '_, '_, '_, C> {
         requires few { self.old.progress.nodes < 4096 }
         ensures lent { SameMemory self.new self.old }
         ensures ended { EndsOn (ends_group (desk_of self.old)) (desk_of self.new) result }
+        ensures groups { (desk_of self.new).groups ≡ (desk_of self.old).groups }
     {
         if !self.progress.wanting {
             self.end_pattern();
@@ -107,6 +108,7 @@ impl<C: Copy> Writer<'_, '_, '_, '_, C> {
         requires few { self.old.progress.nodes < 4096 }
         ensures lent { SameMemory self.new self.old }
         ensures closed { EndsOn (closes (desk_of self.old)) (desk_of self.new) result }
+        ensures popped { (desk_of self.new).groups ≡ outer_groups (desk_of self.old).groups }
     {
         let group = self.groups.pop().ok_or(Refusal::NoOpenGroup)?;
         self.end_group()?;
