@@ -27,9 +27,10 @@ impl From<AllocError> for Unexplained {
 
 // Tells all that can be told of a text that is one atom after another: a line for each atom and, where
 // the text is refused, its fault behind the lines of the atoms before. Answers the fault.
-pub(crate) fn told<K: Shown>(text: &str, lines: &mut String) -> Result<Option<Refused>, AllocError>
-    ensures kept { take (length (string_bytes lines.old)) (string_bytes lines.new) ≡ string_bytes lines.old }
-{
+pub(crate) fn told<K: Shown>(
+    text: &str,
+    lines: &mut String,
+) -> Result<Option<Refused>, AllocError> {
     match explained::<K>(text, lines) {
         Ok(()) => Ok(None),
         Err(Unexplained::Refused(refused)) => {
@@ -41,9 +42,7 @@ pub(crate) fn told<K: Shown>(text: &str, lines: &mut String) -> Result<Option<Re
 }
 
 // Writes a line for each atom. The lines of the atoms before a fault are left.
-fn explained<K: Shown>(text: &str, lines: &mut String) -> Result<(), Unexplained>
-    ensures kept { take (length (string_bytes lines.old)) (string_bytes lines.new) ≡ string_bytes lines.old }
-{
+fn explained<K: Shown>(text: &str, lines: &mut String) -> Result<(), Unexplained> {
     let bytes = text.as_bytes();
     if bytes.is_empty() || bytes.len() > 1024 {
         return Err(Refusal::TextLength.at(0).into());
@@ -55,17 +54,15 @@ fn explained<K: Shown>(text: &str, lines: &mut String) -> Result<(), Unexplained
         let length = atom.length;
         let unit = if length == 1 { "byte" } else { "bytes" };
         let symbols = Symbols::<K>(atom.class);
-        append(
-            format_args!("atom at {place}, {length} {unit}: admits{symbols}\n"),
-            lines,
-        )?;
+        writeln!(lines, "atom at {place}, {length} {unit}: admits{symbols}")?;
         place += length;
     }
     Ok(())
 }
 
 // Writes a value behind what stands in the lines. The value becomes a text of its own first: where no
-// contract states what it prints, `write!` does not promise that the lines are kept.
+// contract states what it prints, `write!` does not promise that the lines are kept. Once for a text: the
+// lines of atoms go straight into `lines`.
 fn append<D: fmt::Display + Drop>(value: D, lines: &mut String) -> Result<(), AllocError>
     ensures behind { OnOk result (AppendsText (string_bytes lines.old) (string_bytes lines.new) (D.output value)) }
     ensures kept { take (length (string_bytes lines.old)) (string_bytes lines.new) ≡ string_bytes lines.old }
