@@ -227,20 +227,21 @@ span_is first end i =
     from_first : (n : ℕ) → not (nat_lt n first) ≡ nat_le first n
     from_first n = grind (arith, nat_tests)
 
--- Word i of a set, with more numbers or turned to what it lacks, and cut to a limit.
-module _ (w limit : ℕ) (old words : List ℕ) (i : ℕ) (small : get_or old i 0 < 2 ^ 64) where
+-- Word i of a set, which is read at j, with more numbers or turned to what it lacks, and cut to a limit.
+module _ (w limit : ℕ) (old words : List ℕ) (j i : ℕ) (at : j ≡ i) (small : get_or old j 0 < 2 ^ 64) where
   pub more_made : (g : ℕ → Bool) → Made (λ n. nat_lt n limit && (g n || in_words old n)) w i words → i < w
       → Made (λ n. nat_lt n limit && (g n || in_words old n)) w (i + 1)
-      (set words i (bit_and (bit_or (get_or old i 0) (word_of g i)) (word_of (λ m. nat_lt m limit) i)))
+      (set words i (bit_and (bit_or (get_or old j 0) (word_of g i)) (word_of (λ m. nat_lt m limit) i)))
   more_made g before h =
       made_more _ w words i _ before h
-      (and_lt 64 _ _ (or_lt 64 _ _ small (gathered-lt (λ j. g (i * 64 + j)) 64)) (gathered-lt (λ j. nat_lt (i * 64 + j) limit) 64))
+      (and_lt 64 _ _ (or_lt 64 _ _ small (gathered-lt (λ x. g (i * 64 + x)) 64)) (gathered-lt (λ x. nat_lt (i * 64 + x) limit) 64))
       (λ x l.
-      member-and (bit_or (get_or old i 0) (word_of g i)) (word_of (λ m. nat_lt m limit) i) x
+      member-and (bit_or (get_or old j 0) (word_of g i)) (word_of (λ m. nat_lt m limit) i) x
       ∙ rw (
-        member-or (get_or old i 0) (word_of g i) x,
-        member-gathered (λ j. g (i * 64 + j)) 64 x l,
-        member-gathered (λ j. nat_lt (i * 64 + j) limit) 64 x l,
+        member-or (get_or old j 0) (word_of g i) x,
+        member-gathered (λ y. g (i * 64 + y)) 64 x l,
+        member-gathered (λ y. nat_lt (i * 64 + y) limit) 64 x l,
+        at,
         has_at old i x l,
       )
       (rw (or_comm (member (get_or old i 0) x) (g (i * 64 + x)))
@@ -248,10 +249,10 @@ module _ (w limit : ℕ) (old words : List ℕ) (i : ℕ) (small : get_or old i 
 
   pub others_made : Made (λ n. nat_lt n limit && not (in_words old n)) w i words → i < w
       → Made (λ n. nat_lt n limit && not (in_words old n)) w (i + 1)
-      (set words i (bit_and (2 ^ 64 - 1 - get_or old i 0) (word_of (λ m. nat_lt m limit) i)))
+      (set words i (bit_and (2 ^ 64 - 1 - get_or old j 0) (word_of (λ m. nat_lt m limit) i)))
   others_made before h =
-      made_more _ w words i _ before h (and_lt 64 _ _ (omega arith) (gathered-lt (λ j. nat_lt (i * 64 + j) limit) 64))
+      made_more _ w words i _ before h (and_lt 64 _ _ (omega arith) (gathered-lt (λ x. nat_lt (i * 64 + x) limit) 64))
       (λ x l.
-      member-and (2 ^ 64 - 1 - get_or old i 0) (word_of (λ m. nat_lt m limit) i) x
-      ∙ rw (member-not 64 (get_or old i 0) x small l, member-gathered (λ j. nat_lt (i * 64 + j) limit) 64 x l, has_at old i x l)
+      member-and (2 ^ 64 - 1 - get_or old j 0) (word_of (λ m. nat_lt m limit) i) x
+      ∙ rw (member-not 64 (get_or old j 0) x small l, member-gathered (λ y. nat_lt (i * 64 + y) limit) 64 x l, at, has_at old i x l)
       (and_comm (not (member (get_or old i 0) x)) (nat_lt (i * 64 + x) limit)))

@@ -32,8 +32,8 @@ impl<const WORDS: usize> NumberSet<WORDS> {
         NumberSet { words }
     }
 
-    // The numbers below a count that the set has, or that lie from a first one on before an end. Whole words, here
-    // and in `others`: a class is made anew for each item of a set, and a test of every number would take far longer.
+    // The numbers below a count that the set has, or that lie from a first one on before an end. By whole words, as
+    // the next two: a class is made anew for each item of a set, and a test of every number would take far longer.
     pub fn with_span(self, count: usize, first: usize, end: usize) -> Self
         ensures { result ≡ set_of (λ n. nat_lt n count && (nat_le first n && nat_lt n end || has self.entry n)) }
     {
